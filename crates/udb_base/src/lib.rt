@@ -1,0 +1,42 @@
+//! Names, texts and rows, the plain types of conditions and spaces, and the traits of the outside
+//! with objects in memory that meet them.
+#![tactic(auto)]
+
+mod accepted;
+mod characters;
+mod conditions;
+mod copies;
+mod kinds;
+mod memory;
+mod names;
+mod outside;
+mod refutations;
+mod rows;
+mod spaces;
+#[cfg(test)]
+mod tests;
+mod versions;
+
+pub use accepted::{TEXT_LIMIT, name, text};
+pub use characters::Chars;
+pub use conditions::{Cond, Conds, Test, Value};
+pub use copies::{Copied, copy_all};
+pub use kinds::Kind;
+pub use memory::{MemorySink, MemorySource};
+pub use names::{Name, NameFault};
+pub use outside::{Failed, Sink, Source};
+pub use refutations::{Known, Partial, Proof, Proofs};
+pub use rows::{Row, Text, TextFault};
+pub use spaces::{
+    Choices, Domain, ExtSpace, ExtSpaces, Full, Numbers, ParamSpace, ParamSpaces, Space, Values,
+    Words,
+};
+pub use sqlite_items::{Boxed, Items};
+pub use versions::{Compare, Listed, ListedVersions, Requirement, Requirements, Version};
+
+/// A list of parts, which contracts see as the list itself: the one generic type for lists that
+/// stand inside the type that they list.
+pub type Many<T> = Items<T>;
+
+/// Want of memory, the one answer that no clause ties to a cause.
+pub type NoMemory = std::alloc::AllocError;
