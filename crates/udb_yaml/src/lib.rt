@@ -1,0 +1,21 @@
+//! Reads and writes trees in the YAML profile.
+#![tactic(auto)]
+
+mod bytes;
+mod flow;
+mod inline;
+mod keys;
+mod marks;
+mod nodes;
+mod print;
+mod quotes;
+mod reader;
+mod rows;
+mod scalars;
+mod steps;
+#[cfg(test)]
+mod tests;
+
+pub use print::write_tree;
+pub use reader::read_tree;
+pub use yaml_spec::{Mark, Pair, Pairs, Tree, Trees, YamlFault};

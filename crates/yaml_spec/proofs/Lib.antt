@@ -1,0 +1,12 @@
+pub mod Cases
+pub mod Quotes
+pub mod Heads
+pub mod Flow
+pub mod Values
+pub mod Rows
+pub mod Open
+pub mod Runs
+pub mod Whole
+pub mod Outside
+pub mod Numbers
+pub mod Printed
