@@ -1,0 +1,10 @@
+pub mod TruthLemmas
+pub mod TallyLemmas
+pub mod RangeLemmas
+pub mod KnownLemmas
+pub mod Agreement
+pub mod GrammarLemmas
+pub mod ConstraintLemmas
+pub mod Completions
+pub mod RequirementLemmas
+pub mod Splits

@@ -1,0 +1,5 @@
+pub mod Parts
+pub mod Tests
+pub mod Steps
+pub mod Tally
+pub mod Requirements

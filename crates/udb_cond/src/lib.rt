@@ -1,0 +1,26 @@
+//! Versions, requirements and conditions: how they are read, and what they say of full and of
+//! partly open configurations.
+#![tactic(auto)]
+
+mod atoms;
+mod cells;
+mod constraints;
+mod grammar;
+mod partial_truth;
+mod ranges;
+#[cfg(test)]
+mod tests;
+mod truth;
+mod versions;
+
+pub use cells::Cells;
+pub use constraints::constraint;
+pub use grammar::{BadRequirement, BadVersion, parse_requirement, parse_version};
+pub use partial_truth::holds3;
+pub use truth::holds;
+pub use udb_base::{
+    Choices, Compare, Cond, Conds, Domain, ExtSpace, ExtSpaces, Full, Known, Listed,
+    ListedVersions, Numbers, ParamSpace, ParamSpaces, Partial, Proof, Proofs, Requirement,
+    Requirements, Space, Test, Value, Values, Version, Words,
+};
+pub use versions::meets;

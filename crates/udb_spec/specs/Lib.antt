@@ -1,0 +1,11 @@
+pub mod Versions
+pub mod Conditions
+pub mod CondLaws
+pub mod CondInduction
+pub mod Spaces
+pub mod Grammar
+pub mod Lawful
+pub mod Cells
+pub mod Known
+pub mod KnownLaws
+pub mod Constraints
