@@ -1,0 +1,9 @@
+use Rattle.std.proofs.Common.{ap, ◌∙◌}
+use Rattle.std.proofs.Common.{◌+◌}
+use Rattle.idl_bits.proofs.Patterns.{value-at}
+use Rattle.idl_bits.specs.Operators.{wide_difference_of}
+use Rattle.idl_bits.proofs.arithmetic.wide_sub.Goals as goal
+
+pub returns : goal.returns
+unfolding wide_difference_of
+returns c = c.difference_at.ensures ∙ value-at _ _ _ _ (ap (λ w. w + 1) c.larger_width.ensures.value)

@@ -1,0 +1,4 @@
+pub mod BitVector
+pub mod Number
+pub mod Operators
+pub mod Sign
