@@ -1,0 +1,5 @@
+pub mod Each
+pub mod ExprLaws
+pub mod StmtLaws
+pub mod WidthLaws
+pub mod Print
