@@ -1,0 +1,9 @@
+pub mod Harts
+pub mod Values
+pub mod Mean
+pub mod MeanLaws
+pub mod Formulas
+pub mod Places
+pub mod Words
+pub mod WordLaws
+pub mod PlaceLaws

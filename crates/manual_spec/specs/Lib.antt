@@ -1,0 +1,6 @@
+pub mod Completions
+pub mod Entries
+pub mod Text
+pub mod Covers
+pub mod Faithful
+pub mod Settled
