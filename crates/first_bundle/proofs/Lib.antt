@@ -1,0 +1,11 @@
+pub mod Clean
+pub mod Digits
+pub mod Examined
+pub mod Operands
+pub mod ParamSteps
+pub mod ReadBack
+pub mod Shaped
+pub mod Sizes
+pub mod Spelled
+pub mod Words
+pub mod Written
