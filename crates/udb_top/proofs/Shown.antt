@@ -1,0 +1,132 @@
+-- The parts that are made show their entries.
+use Rattle.std.proofs.Common.{◌≡◌, ◌<◌, ℕ, Bool, true, false, not, nat_lt, List, [], ◌∷◌, ◌++◌, map, refl, ap, sym, ◌∙◌, subst, Some, None, cond, arith}
+use Rattle.std.specs.Prelude.{All, IsTrue, codes, ◌==◌, ◌&&◌}
+use Rattle.std.specs.List.{list_any}
+use Rattle.manual_spec.specs.declared.manuals.Shown.TheVariants.{Parameter}
+use Rattle.std.specs.Fmt.{decimal, digits}
+use Rattle.std.proofs.lemmas.List.Elements.{All-nil, All-head, All-tail}
+use Rattle.udb_base.specs.declared.spaces.Domain.{Domain}
+use Rattle.udb_base.specs.declared.spaces.Domain.TheVariants.{Flags, Numbers, Range, Words}
+use Rattle.udb_base.specs.declared.spaces.Full.{Full}
+use Rattle.udb_base.specs.declared.spaces.Space.{Space}
+use Rattle.udb_spec.specs.Conditions.{holds}
+use Rattle.udb_spec.specs.Spaces.{Completes, mxlen}
+use Rattle.udb_base.specs.declared.refutations.Partial.{Partial}
+use Rattle.idl_tree.specs.declared.programs.Base.TheVariants.{All as EachBase}
+use Rattle.idl_tree.specs.declared.programs.Variable.{Variable}
+use Rattle.entry_tree.specs.declared.ParamEntry.{ParamEntry}
+use Rattle.entry_tree.specs.declared.Encoding.{Encoding}
+use Rattle.entry_tree.specs.declared.InstructionEntry.{InstructionEntry}
+use Rattle.first_bundle.specs.declared.bundle.FirstBundle.{FirstBundle}
+use Rattle.first_bundle.specs.Alphabets.{is_text, is_spaced, begins, is_upper, is_letter_or_digit}
+use Rattle.first_bundle.specs.Bundle.{IsSwitch, IsParam, IsInstruction, IsFirst, digits_among}
+use Rattle.manual_spec.specs.declared.manuals.PartText.{PartText}
+use Rattle.manual_spec.specs.declared.manuals.Part.{Part}
+use Rattle.manual_spec.specs.declared.manuals.Manual.{Manual}
+use Rattle.manual_spec.specs.Text.{lines_of, onto_first}
+use Rattle.manual_spec.specs.Entries.{Entries, space_of, HasExtension, HasParam, HasInstruction, fits_base, base_or_any}
+use Rattle.manual_spec.specs.Covers.{Shows, none, shown, IsText, HasCompletion, IsParamPart, IsInstructionPart, ShowsEntries, Covers, HasRow, match_row, variable_row, domain_lines}
+use Rattle.first_bundle.proofs.Clean.{is_clean, clean, left_so, right_so}
+use Rattle.first_bundle.proofs.Words.{clean_text}
+use Rattle.udb_top.specs.Making.{entries_of, partial_of, first_completion, one_line_each, value_rows, param_part, instruction_part, made_parts, made_manual}
+use Rattle.udb_top.proofs.Completed.{always_holds, first_completes}
+
+no_feed : (b : ℕ) (t : Bool) → (b == 10) ≡ t → (nat_lt b 128 && not (b == 10)) ≡ true → (b == 10) ≡ false
+no_feed b true e h = absurd (at_feed (nat_lt b 128) (b == 10) e h)
+  where
+    at_feed : (small feed : Bool) → feed ≡ true → (small && not feed) ≡ true → ⊥
+    at_feed true true e h = cc
+    at_feed false true e h = cc
+    at_feed small false e h = cc
+no_feed b false e h = e
+
+line_byte : (b : ℕ) (bs : List ℕ) → (b == 10) ≡ false → lines_of (b ∷ bs) ≡ onto_first b (lines_of bs)
+line_byte b bs e = ap (λ t. cond t ([] ∷ lines_of bs) (onto_first b (lines_of bs))) e
+
+-- bytes without a line feed are one line
+one_line : (b : ℕ) (bs : List ℕ) → clean (b ∷ bs) ≡ true → lines_of (b ∷ bs) ≡ (b ∷ bs) ∷ []
+one_line b [] h = line_byte b [] (no_feed b (b == 10) refl (left_so (is_clean b) true h))
+one_line b (c ∷ cs) h =
+    line_byte b (c ∷ cs) (no_feed b (b == 10) refl (left_so (is_clean b) (clean (c ∷ cs)) h))
+    ∙ ap (onto_first b) (one_line c cs (right_so (is_clean b) (clean (c ∷ cs)) h))
+
+-- a text is one line
+pub text_line : (t : List ℕ) → IsTrue (is_text t) → t ∷ [] ≡ lines_of t
+text_line [] h = absurd (cc)
+text_line (b ∷ bs) h = sym (one_line b bs (clean_text (b ∷ bs) h))
+
+is_one_text : (long_name description : List ℕ) → IsTrue (is_text long_name) → IsTrue (is_text description) → IsText long_name description [] (one_line_each long_name description)
+is_one_text long_name description h k = record { long_lines = text_line long_name h; description_lines = text_line description k; assembly_lines = refl }
+
+decimal_32 : decimal 32 ≡ codes "32"
+unfolding digits
+decimal_32 = refl
+
+rows_of : (name : List ℕ) (domain : Domain) → IsSwitch name domain → value_rows domain ≡ domain_lines domain
+rows_of name Flags s = refl
+rows_of name (Numbers ns) s = ap (λ (d : List ℕ). d ∷ []) (sym decimal_32) ∙ ap (λ (xs : List ℕ). map decimal xs) (sym s.1)
+rows_of name (Range low high) s = absurd s
+rows_of name (Words ws) s = absurd s
+
+module _ (space : Space) (part : Partial) (full : Full) (complete : Completes space part full) where
+  param_shown : (p : ParamEntry) → IsParam p → IsParamPart space part p (param_part full p)
+  param_shown p h = record {
+    name = refl;
+    text = is_one_text p.long_name p.description h.long_name h.description;
+    completion = record { completes = complete; has = always_holds space full p.defined h.defined };
+    table = ap Parameter (rows_of p.name p.domain h.domain);
+  }
+
+  pub params_shown : (ps : List ParamEntry) → All IsParam ps → Shows (Completes space part) (HasParam space) (IsParamPart space part) ps (map (param_part full) ps)
+  params_shown [] h = none
+  params_shown (p ∷ ps) h =
+      shown full complete (always_holds space full p.defined (All-head IsParam p ps h).defined)
+      (param_shown p (All-head IsParam p ps h)) (params_shown ps (All-tail IsParam p ps h))
+
+  pub has_instruction : (x : InstructionEntry) → IsInstruction x → HasInstruction space full x
+  has_instruction x h = record {
+    defined = always_holds space full x.defined h.defined;
+    base = ap (λ o. base_or_any o (mxlen space full)) h.base;
+    encoding = ap (λ es. list_any (λ e. fits_base e.base (mxlen space full)) es) h.encodings;
+  }
+
+  row_shown : (x : InstructionEntry) → HasInstruction space full x → (es : List Encoding) (digits : List ℕ) → es ≡ record { base = EachBase; digits = digits } ∷ [] → Shows (Completes space part) (λ full e. HasRow space x e.base full) (λ e row. row ≡ match_row e) es ((codes "all | " ++ digits_among es) ∷ [])
+  row_shown x has es digits e =
+      subst (λ (es : List Encoding). Shows (Completes space part) (λ full e. HasRow space x e.base full) (λ e row. row ≡ match_row e) es ((codes "all | " ++ digits_among es) ∷ [])) (sym e)
+      (shown full complete (has, refl) refl none)
+
+  no_variables : (x : InstructionEntry) (vs : List Variable) → vs ≡ [] → Shows (Completes space part) (λ full e. HasRow space x e.base full) (λ e row. row ≡ variable_row e) vs []
+  no_variables x vs e = subst (λ (vs : List Variable). Shows (Completes space part) (λ full e. HasRow space x e.base full) (λ e row. row ≡ variable_row e) vs []) (sym e) none
+
+  pub instruction_shown : (x : InstructionEntry) → IsInstruction x → IsInstructionPart space part x (instruction_part full x)
+  instruction_shown x h = record {
+    name = refl;
+    text = subst (λ (a : List ℕ). IsText x.long_name x.description a (one_line_each x.long_name x.description)) (sym h.assembly) (is_one_text x.long_name x.description h.long_name h.description);
+    completion = record { completes = complete; has = has_instruction x h };
+    matches = (codes "all | " ++ digits_among x.encodings) ∷ [];
+    match_rows = row_shown x (has_instruction x h) x.encodings h.digits h.encodings;
+    variables = [];
+    variable_rows = no_variables x x.operation.variables h.variables;
+    body = x.operation;
+    table = refl;
+  }
+
+-- the manual that is made shows exactly the entries that some completion has
+pub made_covers : (x : FirstBundle) → IsFirst x → Covers (entries_of x) x.config.name (partial_of x.config) (made_manual x)
+made_covers x h =
+    let space : Space = space_of (entries_of x) in
+    let full : Full = first_completion x.params in
+    let complete : Completes space (partial_of x.config) full = first_completes x h in
+    record {
+      name = refl;
+      completion = complete;
+      parts = record {
+        extensions = [];
+        shows_extensions = none;
+        params = map (param_part full) x.params;
+        shows_params = params_shown space (partial_of x.config) full complete x.params h.params;
+        instructions = instruction_part full x.instruction ∷ [];
+        shows_instructions = shown full complete (has_instruction space (partial_of x.config) full complete x.instruction h.instruction) (instruction_shown space (partial_of x.config) full complete x.instruction h.instruction) none;
+        in_order = refl;
+      };
+    }

@@ -1,0 +1,11 @@
+//! The commands of the program over a bundle on its input.
+#![tactic(auto)]
+
+mod input;
+mod making;
+mod running;
+mod spaces;
+#[cfg(test)]
+mod tests;
+
+pub use running::run;

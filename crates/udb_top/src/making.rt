@@ -1,0 +1,172 @@
+//! The manual of a bundle of the first path.
+
+ghost use Rattle.std.specs.Prelude.{◌≡◌, ◌++◌, ◌∷◌, [], IfOk, OnOk, map, codes};
+ghost use Rattle.first_bundle.specs.Bundle.{digits_among};
+ghost use Rattle.udb_top.specs.Making.{first_of, first_completion, one_line_each, value_rows, param_part, instruction_part, made_parts, made_manual};
+
+use entry_tree::{Encoding, InstructionEntry, ParamEntry};
+use first_bundle::FirstBundle;
+use idl_tree::{Body, Lines, copy_statements};
+use manual_spec::{Manual, Part, PartText, Parts, Shown};
+use std::alloc::Global;
+use udb_base::{Chars, Copied, Domain, Full, Many, NoMemory, Value};
+
+fn first_value(domain: &Domain) -> Value
+    ensures { result ≡ first_of domain.now }
+{
+    match domain {
+        Domain::Flags => Value::Flag(false),
+        Domain::Numbers(_numbers) => Value::Number(32),
+        Domain::Range {
+            low: _low,
+            high: _high,
+        } => Value::Number(32),
+        Domain::Words(_words) => Value::Number(32),
+    }
+}
+
+fn completion(alloc: Global, params: &[ParamEntry]) -> Result<Full, NoMemory>
+    ensures { IfOk result (λ full. full ≡ first_completion params.now) }
+{
+    let mut values = Many::new(alloc);
+    for param in params {
+        values.push(first_value(&param.domain))?;
+    }
+    Ok(Full {
+        extensions: Many::new(alloc),
+        params: values,
+    })
+}
+
+fn one_line(alloc: Global, text: &str) -> Result<Lines, NoMemory>
+    ensures { IfOk result (λ lines. lines ≡ text.now ∷ []) }
+{
+    let mut lines = Many::new(alloc);
+    lines.push(Chars::of(alloc, text)?)?;
+    Ok(lines)
+}
+
+fn texts(alloc: Global, long_name: &Chars, description: &Chars) -> Result<PartText, NoMemory>
+    ensures { IfOk result (λ text. text ≡ one_line_each long_name.now description.now) }
+{
+    Ok(PartText {
+        long_name: one_line(alloc, long_name.as_str())?,
+        description: one_line(alloc, description.as_str())?,
+        assembly: Many::new(alloc),
+    })
+}
+
+fn flag_rows(alloc: Global) -> Result<Lines, NoMemory>
+    ensures { IfOk result (λ lines. lines ≡ codes "false" ∷ codes "true" ∷ []) }
+{
+    let mut lines = Many::new(alloc);
+    lines.push(Chars::of(alloc, "false")?)?;
+    lines.push(Chars::of(alloc, "true")?)?;
+    Ok(lines)
+}
+
+fn rows(alloc: Global, domain: &Domain) -> Result<Lines, NoMemory>
+    ensures { IfOk result (λ lines. lines ≡ value_rows domain.now) }
+{
+    match domain {
+        Domain::Flags => flag_rows(alloc),
+        Domain::Numbers(_numbers) => one_line(alloc, "32"),
+        Domain::Range {
+            low: _low,
+            high: _high,
+        } => one_line(alloc, "32"),
+        Domain::Words(_words) => one_line(alloc, "32"),
+    }
+}
+
+fn part_of_param(alloc: Global, full: &Full, param: &ParamEntry) -> Result<Part, NoMemory>
+    ensures { IfOk result (λ part. part ≡ param_part full.now param.now) }
+{
+    Ok(Part {
+        name: param.name.copy(alloc)?,
+        completion: full.copy(alloc)?,
+        text: texts(alloc, &param.long_name, &param.description)?,
+        shown: Shown::Parameter {
+            values: rows(alloc, &param.domain)?,
+        },
+    })
+}
+
+fn digits(encodings: &[Encoding]) -> &str
+    ensures { result.now ≡ digits_among encodings.now }
+{
+    match encodings {
+        [] => "",
+        [first, ..] => first.digits.as_str(),
+    }
+}
+
+fn match_rows(alloc: Global, encodings: &[Encoding]) -> Result<Lines, NoMemory>
+    ensures { IfOk result (λ lines. lines ≡ (codes "all | " ++ digits_among encodings.now) ∷ []) }
+{
+    let mut row = Chars::of(alloc, "all | ")?;
+    row.push_str(digits(encodings))?;
+    let mut lines = Many::new(alloc);
+    lines.push(row)?;
+    Ok(lines)
+}
+
+fn shown_instruction(alloc: Global, instruction: &InstructionEntry) -> Result<Shown, NoMemory>
+    ensures { IfOk result (λ shown. shown ≡ Shown.Instruction ((codes "all | " ++ digits_among instruction.now.encodings) ∷ []) [] instruction.now.operation) }
+{
+    let matches = match_rows(alloc, instruction.encodings.as_slice())?;
+    let body = instruction.operation.copy(alloc)?;
+    Ok(Shown::Instruction {
+        matches,
+        variables: Many::new(alloc),
+        body,
+    })
+}
+
+fn part_of_instruction(
+    alloc: Global,
+    full: &Full,
+    instruction: &InstructionEntry,
+) -> Result<Part, NoMemory>
+    ensures { IfOk result (λ part. part ≡ instruction_part full.now instruction.now) }
+{
+    let shown = shown_instruction(alloc, instruction)?;
+    Ok(Part {
+        name: instruction.name.copy(alloc)?,
+        completion: full.copy(alloc)?,
+        text: texts(alloc, &instruction.long_name, &instruction.description)?,
+        shown,
+    })
+}
+
+fn parts_of_params(alloc: Global, full: &Full, params: &[ParamEntry]) -> Result<Parts, NoMemory>
+    ensures { IfOk result (λ parts. parts ≡ map (param_part full.now) params.now) }
+{
+    let mut parts = Many::new(alloc);
+    for param in params {
+        parts.push(part_of_param(alloc, full, param)?)?;
+    }
+    Ok(parts)
+}
+
+fn all_parts(alloc: Global, full: &Full, bundle: &FirstBundle) -> Result<Parts, NoMemory>
+    ensures { IfOk result (λ parts. parts ≡ made_parts full.now bundle.now) }
+{
+    let instruction = part_of_instruction(alloc, full, &bundle.instruction)?;
+    let mut parts = parts_of_params(alloc, full, bundle.params.as_slice())?;
+    parts.push(instruction)?;
+    Ok(parts)
+}
+
+/// The manual of the bundle's configuration.
+pub fn make_manual(alloc: Global, bundle: &FirstBundle) -> Result<Manual, NoMemory>
+    ensures { IfOk result (λ manual. manual ≡ made_manual bundle.now) }
+{
+    let full = completion(alloc, bundle.params.as_slice())?;
+    let parts = all_parts(alloc, &full, bundle)?;
+    Ok(Manual {
+        config: bundle.config.name.copy(alloc)?,
+        completion: full,
+        parts,
+    })
+}
