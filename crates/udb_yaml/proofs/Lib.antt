@@ -6,3 +6,4 @@ pub mod NodeLemmas
 pub mod StepLemmas
 pub mod TextLemmas
 pub mod PrintLemmas
+pub mod IndexLemmas

@@ -19,7 +19,7 @@ use Rattle.yaml_spec.specs.Reading.{sees}
 use Rattle.yaml_spec.specs.Machine as k
 use Rattle.yaml_spec.specs.Machine.{State, frame, close, level, line_level, group_of}
 use Rattle.udb_yaml.specs.Steps.{Begun, Stepped, Reaches, reader_of, mark_of, at_place, kept_count, bound, behind_all, next_of, next_at, under_all, is_start}
-use Rattle.udb_yaml.proofs.NodeLemmas.{some_triple, inside_place, no_mark}
+use Rattle.udb_yaml.proofs.NodeLemmas.{begun_below, some_triple, inside_place, no_mark}
 
 -- ---- frames that close
 
@@ -215,6 +215,13 @@ next_opens r s f x seen g key p ps b is all news new =
     next_mark (k.inside r (k.begin r) f.column s) f x seen g key p (sym is)
     ∙ (rw (ap (is_new g key) (sym all) ∙ (sym news ∙ new)) (ap (λ (z : List Pair). k.below (frame g f.column z key) (k.inside r (k.begin r) f.column s seen)) (sym all))
     ∙ ap (k.below (frame g f.column ps key)) (inside_place r (k.begin r) f.column s seen g key p (sym is)))
+
+pub next_pushed : (r column : ℕ) (s : List ℕ) (f : Frame) (x : Tree) (seen : Sight) (g : Group) (key : List ℕ) (p : Place) (ps : List Pair) (b : Bool) (old mid new : List Frame) (o : Option Leaf)
+    → Some (g, key, p) ≡ mark_of seen → column ≡ f.column → ps ≡ f.parts ++ pair f.key x ∷ [] → b ≡ is_new g key ps → b ≡ true → mid ≡ old ++ frame g column ps key ∷ [] → Begun (at_place r (k.begin r) column s p) mid new o
+    → Begun (k.next (k.inside r (k.begin r) f.column s) f x seen) old new o
+next_pushed r column s f x seen g key p ps b old mid new o is at_column all news opens pushed begun =
+    let next = next_opens r s f x seen g key p ps b is all news opens ∙ ap (λ (z : ℕ). k.below (frame g z ps key) (at_place r (k.begin r) z s p)) (sym at_column) in
+    begun_below (frame g column ps key) (at_place r (k.begin r) column s p) _ old mid new o next pushed begun
 
 -- ---- a node below the last mark
 

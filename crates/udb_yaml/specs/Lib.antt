@@ -2,3 +2,4 @@ pub mod Places
 pub mod Steps
 pub mod Answers
 pub mod Printing
+pub mod Keys

@@ -7,6 +7,7 @@ ghost use Rattle.yaml_spec.specs.Reading as spec;
 ghost use Rattle.udb_yaml.specs.Places.{Takes, Reads, ReadsParts, ReadsPart, SignAt};
 
 use crate::bytes;
+use crate::indexed::IndexedPairs;
 use crate::keys::{has_flow, is_plain, key_of};
 use crate::quotes::{quote_of, quoted};
 use crate::scalars::meaning;
@@ -14,25 +15,13 @@ use std::alloc::Global;
 use udb_base::{Chars, NoMemory};
 use yaml_spec::{Group, Inner, Pair, Pairs, Tree, Trees};
 
-/// Whether a part has this key.
-fn has_key(key: &Chars, parts: &[Pair]) -> bool
-    ensures { result ≡ line.has_key key.now parts.now }
-{
-    'parts: for part in parts {
-        if part.key == *key {
-            return true;
-        }
-    }
-    false
-}
-
 /// Whether no part has this key.
-pub fn is_new(group: Group, key: &Chars, parts: &Pairs) -> bool
+pub fn is_new(group: Group, key: &Chars, parts: &IndexedPairs) -> bool
     ensures { result ≡ line.is_new group key.now parts.now }
 {
     match group {
         Group::Listed => true,
-        Group::Mapped => !has_key(key, parts.as_slice()),
+        Group::Mapped => !parts.has(key),
     }
 }
 
@@ -208,7 +197,7 @@ fn parts(
     requires { IsUtf8 text.now }
     ensures { IfOk result (λ o. ReadsParts text.now (spec.flow_parts group (spec.flow room) (suc (length text.now)) [] text.now) o) }
 {
-    let mut before = Pairs::new(alloc);
+    let mut before = IndexedPairs::new(alloc);
     let mut at = 0;
     let mut left = text.len() + 1;
     'parts: while left > 0 {
@@ -216,10 +205,10 @@ fn parts(
         match part(alloc, room, group, &before, bytes::text_after(text, at))? {
             None => return Ok(None),
             Some((part, count)) => {
-                before.push(part)?;
+                before = before.with(alloc, part)?;
                 match find_sign(group, text.as_bytes(), at + count) {
                     Sign::Fault => return Ok(None),
-                    Sign::Last(end) => return Ok(Some((before, end))),
+                    Sign::Last(end) => return Ok(Some((before.into_pairs(), end))),
                     Sign::More(next) => at = next,
                 }
             }
@@ -259,7 +248,7 @@ fn part(
     alloc: Global,
     room: u32,
     group: Group,
-    before: &Pairs,
+    before: &IndexedPairs,
     text: &str,
 ) -> Result<Option<(Pair, usize)>, NoMemory>
     requires { IsUtf8 text.now }

@@ -3,8 +3,12 @@
 
 mod bytes;
 mod flow;
+mod frames;
+mod indexed;
 mod inline;
 mod keys;
+#[cfg(test)]
+mod large;
 mod marks;
 mod nodes;
 mod print;
@@ -15,6 +19,8 @@ mod scalars;
 mod steps;
 #[cfg(test)]
 mod tests;
+#[cfg(test)]
+mod written;
 
 pub use print::write_tree;
 pub use reader::read_tree;

@@ -6,12 +6,14 @@ ghost use Rattle.yaml_spec.specs.Reading as reading;
 ghost use Rattle.udb_yaml.specs.Steps.{Begun, mark_of, at_place, CanCutAt};
 
 use crate::bytes;
+use crate::frames::OpenFrame;
+use crate::indexed::IndexedPairs;
 use crate::inline::inline;
 use crate::keys::sees;
 use crate::rows::open_block;
 use std::alloc::{AllocError, Global};
 use udb_base::{Chars, Many, NoMemory};
-use yaml_spec::{Frame, Got, Group, Leaf, Pairs, Sight};
+use yaml_spec::{Got, Group, Leaf, Sight};
 
 fn leaf(alloc: Global, least: usize, got: Option<Got>) -> Option<Leaf>
     ensures { result ≡ option_map (spec.leaf_of least) got }
@@ -58,7 +60,7 @@ pub fn behind(
     column: usize,
     text: &str,
     place: Place,
-    frames: &mut Many<Frame>,
+    frames: &mut Many<OpenFrame>,
 ) -> Result<Option<Leaf>, NoMemory>
     requires { CanCutAt text.now place }
     ensures { IfOk result (λ o. Begun (at_place room (spec.begin room) column text.now place) frames.old frames.new o) }
@@ -114,7 +116,7 @@ pub fn begin(
     least: usize,
     column: usize,
     text: &str,
-    frames: &mut Many<Frame>,
+    frames: &mut Many<OpenFrame>,
 ) -> Result<Option<Leaf>, NoMemory>
     ensures { IfOk result (λ o. Begun (spec.begin room least column text.now) frames.old frames.new o) }
 {
@@ -124,8 +126,8 @@ pub fn begin(
             if room == 0 {
                 return Ok(None);
             }
-            let parts = Pairs::new(alloc);
-            frames.push(Frame {
+            let parts = IndexedPairs::new(alloc);
+            frames.push(OpenFrame {
                 group,
                 column,
                 parts,

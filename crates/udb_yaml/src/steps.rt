@@ -11,24 +11,25 @@ ghost use Rattle.udb_yaml.specs.Steps.{Begun, Stepped, kept_count, bound, next_a
 
 use crate::bytes;
 use crate::flow::{is_new, whole};
+use crate::frames::OpenFrame;
 use crate::keys::sees;
 use crate::nodes::{begin, behind, mark, right_of};
 use crate::rows::{block_tree, grown};
 use std::alloc::Global;
 use udb_base::{Many, NoMemory};
-use yaml_spec::{Block, Frame, Group, Leaf, Pair, Sight, Tree};
+use yaml_spec::{Block, Group, Leaf, Pair, Sight, Tree};
 
 /// A list or map with its last part.
-fn with_value(alloc: Global, frame: Frame, value: Tree) -> Result<Tree, NoMemory>
+fn with_value(alloc: Global, frame: OpenFrame, value: Tree) -> Result<Tree, NoMemory>
     ensures { IfOk result (λ x. x ≡ line.whole frame.group (frame.parts ++ line.pair frame.key value ∷ [])) }
 {
-    let Frame {
+    let OpenFrame {
         group,
         column: _,
         parts,
         key,
     } = frame;
-    let mut all = parts;
+    let mut all = parts.into_pairs();
     all.push(Pair { key, value })?;
     whole(alloc, group, all)
 }
@@ -47,7 +48,7 @@ fn leaf_tree(leaf: Leaf) -> Result<Tree, NoMemory>
 /// Closes all frames but the first ones.
 pub fn close(
     alloc: Global,
-    frames: &mut Many<Frame>,
+    frames: &mut Many<OpenFrame>,
     keep: usize,
     leaf: Leaf,
 ) -> Result<Tree, NoMemory>
@@ -84,7 +85,7 @@ fn group_of(sight: &Sight) -> Group
 }
 
 /// How many frames stand less deep.
-fn kept(frames: &[Frame], level_here: u128) -> usize
+fn kept(frames: &[OpenFrame], level_here: u128) -> usize
     ensures count { result ≡ kept_count level_here frames.now }
     ensures within { result ≤ length frames.now }
 {
@@ -101,7 +102,7 @@ fn kept(frames: &[Frame], level_here: u128) -> usize
 /// A part behind the parts of the frame at a place, where it stands at the frame's level.
 fn next(
     alloc: Global,
-    frames: &mut Many<Frame>,
+    frames: &mut Many<OpenFrame>,
     count: usize,
     leaf: Leaf,
     text: &str,
@@ -127,9 +128,9 @@ fn next(
 /// A frame whose last part has this value, with one more part.
 fn part(
     alloc: Global,
-    frames: &mut Many<Frame>,
+    frames: &mut Many<OpenFrame>,
     room: u32,
-    frame: Frame,
+    frame: OpenFrame,
     value: Tree,
     text: &str,
     sight: Sight,
@@ -140,18 +141,17 @@ fn part(
     match mark(sight) {
         None => Ok(None),
         Some((group, key, place)) => {
-            let Frame {
+            let OpenFrame {
                 group: _,
                 column,
                 parts,
                 key: last,
             } = frame;
-            let mut all = parts;
-            all.push(Pair { key: last, value })?;
+            let all = parts.with(alloc, Pair { key: last, value })?;
             if !is_new(group, &key, &all) {
                 return Ok(None);
             }
-            frames.push(Frame {
+            frames.push(OpenFrame {
                 group,
                 column,
                 parts: all,
@@ -165,7 +165,7 @@ fn part(
 /// A node below the last mark, where nothing stands there yet.
 fn under(
     alloc: Global,
-    frames: &mut Many<Frame>,
+    frames: &mut Many<OpenFrame>,
     leaf: Leaf,
     column: usize,
     text: &str,
@@ -187,20 +187,21 @@ fn under(
 }
 
 /// The least column of what stands inside the last frame.
-fn least(frames: &[Frame]) -> Result<usize, NoMemory>
+fn least(frames: &[OpenFrame]) -> Result<usize, NoMemory>
     ensures { IfOk result (λ n. n ≡ bound 0 frames.now) }
 {
     let count = frames.len();
     if count == 0 {
         return Ok(0);
     }
-    right_of(frames[count - 1].column)
+    let last = &frames[count - 1];
+    right_of(last.column)
 }
 
 /// A line that isn't skipped and stands in no block scalar.
 fn add(
     alloc: Global,
-    frames: &mut Many<Frame>,
+    frames: &mut Many<OpenFrame>,
     leaf: Leaf,
     column: usize,
     text: &str,
@@ -228,7 +229,7 @@ fn is_skipped(content: &str) -> bool
 #[derive(Drop)]
 pub struct State {
     pub started: bool,
-    pub frames: Many<Frame>,
+    pub frames: Many<OpenFrame>,
     pub leaf: Leaf,
 }
 
@@ -270,7 +271,7 @@ fn is_inside(least: usize, column: usize, content: &str) -> bool
 fn row(
     alloc: Global,
     started: bool,
-    frames: Many<Frame>,
+    frames: Many<OpenFrame>,
     block: Block,
     column: usize,
     content: &str,

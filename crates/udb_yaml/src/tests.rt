@@ -4,7 +4,7 @@ use std::test::Fail;
 use udb_base::Chars;
 
 // The text of the tree that is answered, or the fault.
-fn answer(rt: &HostRuntime, text: &str) -> Result<Chars, Fail> {
+pub fn answer(rt: &HostRuntime, text: &str) -> Result<Chars, Fail> {
     if text.len() > 65536 {
         return Ok(Chars::new(rt.alloc()));
     }
@@ -148,38 +148,5 @@ fn what_is_written_is_read_again(rt: HostRuntime) -> Result<(), Fail> {
             assert_eq!(rt; again.as_str(), want, "{text:?}");
         }
     }
-    Ok(())
-}
-
-fn repeated(rt: &HostRuntime, front: &str, part: &str, count: u32) -> Result<Chars, Fail> {
-    let mut text = Chars::of(rt.alloc(), front)?;
-    for _ in 0..count {
-        text.push_str(part)?;
-    }
-    Ok(text)
-}
-
-#[test]
-fn long_and_deep_texts_get_their_answer(rt: HostRuntime) -> Result<(), Fail> {
-    let deep = repeated(&rt, "", "[", 65536)?;
-    assert_eq!(rt; answer(&rt, deep.as_str())?.as_str(), "Bad { line: 1 }");
-    let items = repeated(&rt, "", "- ", 32768)?;
-    assert_eq!(rt; answer(&rt, items.as_str())?.as_str(), "Bad { line: 1 }");
-    let mut stairs = Chars::new(rt.alloc());
-    for depth in 0u32..350 {
-        stairs.push_str(repeated(&rt, "", " ", depth)?.as_str())?;
-        stairs.push_str("a:\n")?;
-    }
-    assert_eq!(rt; answer(&rt, stairs.as_str())?.as_str(), "Bad { line: 33 }");
-    let mut wide = repeated(&rt, "a: ", "x", 65000)?;
-    assert_eq!(rt; answer(&rt, wide.as_str())?.as_bytes().len(), 65008);
-    wide.push_str(": ")?;
-    assert_eq!(rt; answer(&rt, wide.as_str())?.as_str(), "Bad { line: 1 }");
-    let rows = repeated(&rt, "|\n", "x\n", 30000)?;
-    assert_eq!(rt; answer(&rt, rows.as_str())?.as_bytes().len(), 90003);
-    let folded = repeated(&rt, ">\n", "x\n", 30000)?;
-    assert_eq!(rt; answer(&rt, folded.as_str())?.as_bytes().len(), 60004);
-    let blanks = repeated(&rt, "|\nx", "\n", 65000)?;
-    assert_eq!(rt; answer(&rt, blanks.as_str())?.as_str(), "\"x\\n\"\n");
     Ok(())
 }

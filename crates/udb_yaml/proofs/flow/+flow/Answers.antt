@@ -45,14 +45,14 @@ parts-returns-in-Fault t c =
 
 pub parts-returns-in-Last : goal.parts-returns-in-Last
 parts-returns-in-Last t c =
-    let all = parts_last c.args.group (spec.flow c.args.room) c.parts.left c.parts.before c.push.new.self c.args.text.now c.text_after.result.now c.as_bytes.result.now c.parts.at c.in-Some.count c.in-Last.end c.in-Some.part c.requires.0.1.1.1.0 c.parts-test.true c.text_after.ensures
-    (subst (ReadsPart c.args.group (spec.flow c.args.room) c.parts.before c.text_after.result.now) c.in-Some.is c.in_ok-part.ensures) c.as_bytes.ensures.value c.in-Last.ensures c.in_ok-push-in-Some.ensures.ok in
+    let all = parts_last c.args.group (spec.flow c.args.room) c.parts.left c.parts.before c.into_pairs.result c.args.text.now c.text_after.result.now c.as_bytes.result.now c.parts.at c.in-Some.count c.in-Last.end c.in-Some.part c.requires.0.1.1.1.0 c.parts-test.true c.text_after.ensures
+    (subst (ReadsPart c.args.group (spec.flow c.args.room) c.parts.before c.text_after.result.now) c.in-Some.is c.in_ok-part.ensures) c.as_bytes.ensures.value c.in-Last.ensures (c.into_pairs.ensures ∙ c.in_ok-before-in-Some.ensures) in
     (sym c.parts.invariant.0 ∙ all.0, all.1, all.2)
 
 pub parts-parts-preserved : goal.parts-parts-preserved
 parts-parts-preserved t c =
-    let all = parts_more c.args.group (spec.flow c.args.room) c.parts.left c.parts.before c.push.new.self c.args.text.now c.text_after.result.now c.as_bytes.result.now c.parts.at c.in-Some.count c.in-More.next c.in-Some.part c.requires.0.1.1.1.0 c.parts-test.true c.text_after.ensures
-    (subst (ReadsPart c.args.group (spec.flow c.args.room) c.parts.before c.text_after.result.now) c.in-Some.is c.in_ok-part.ensures) c.as_bytes.ensures.value c.in-More.ensures c.in_ok-push-in-Some.ensures.ok in
+    let all = parts_more c.args.group (spec.flow c.args.room) c.parts.left c.parts.before c.in_ok-before-in-Some.before c.args.text.now c.text_after.result.now c.as_bytes.result.now c.parts.at c.in-Some.count c.in-More.next c.in-Some.part c.requires.0.1.1.1.0 c.parts-test.true c.text_after.ensures
+    (subst (ReadsPart c.args.group (spec.flow c.args.room) c.parts.before c.text_after.result.now) c.in-Some.is c.in_ok-part.ensures) c.as_bytes.ensures.value c.in-More.ensures c.in_ok-before-in-Some.ensures in
     (all.reads ∙ c.parts.invariant.0, all.within, all.cut)
 
 pub rest-returns-then-as_bytes-place : goal.rest-returns-then-as_bytes-place
