@@ -1,0 +1,6 @@
+use Rattle.std.proofs.Common.{◌≡◌, take}
+use Rattle.udb_schema.specs.Faults as spec
+use Rattle.udb_schema.proofs.validating.for_items.Given as goal
+
+abbrev pub invariant-loop-schema : goal.invariant-loop-schema
+invariant-loop-schema l = spec.behind l.into.items ≡ spec.for_items (spec.behind (take l.schema-index l.schemas))

@@ -1,0 +1,4 @@
+pub mod Trees
+pub mod Meets
+pub mod Faults
+pub mod Spelled
