@@ -2,7 +2,7 @@
 use Rattle.std.proofs.Common.{◌≡◌, ℕ, ◌<◌, ◌≤◌, ◌+◌, ◌*◌, ◌/◌, ◌%◌, ◌^◌, true, false, cond, List, [], ◌∷◌, ◌++◌, ap, sym, ◌∙◌, arith, append_assoc, decimal}
 use Rattle.std.proofs.lemmas.Bool.Decides.{nat_tests}
 use Rattle.std.proofs.lemmas.Fmt.{decimal_by_steps}
-use Rattle.first_bundle.specs.Alphabets.{is_digit}
+use Rattle.first_spec.specs.Alphabets.{is_digit}
 use Rattle.first_bundle.specs.Statements.{read_digits, with_digit}
 
 digit_more : (m r : ℕ) → r < 10 → m * 10 + r < 2 ^ 32 → with_digit m (48 + r) ≡ m * 10 + r

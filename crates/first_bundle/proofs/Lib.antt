@@ -1,10 +1,14 @@
 pub mod Clean
 pub mod Digits
 pub mod Examined
+pub mod Names
+pub mod Nested
+pub mod Opened
 pub mod Operands
 pub mod ParamSteps
 pub mod ReadBack
 pub mod Shaped
+pub mod Shapes
 pub mod Sizes
 pub mod Spelled
 pub mod Words

@@ -1,14 +1,15 @@
 -- Operands and assignments: what is read is one of the language, and what is printed is read back.
-use Rattle.std.proofs.Common.{◌≡◌, ℕ, ◌<◌, ◌^◌, Bool, true, false, cond, ◌&&◌, List, drop, refl, nat_lt, codes, IsTrue, Option, None, Some, ltb-true}
+use Rattle.std.proofs.Common.{◌≡◌, ℕ, ◌<◌, ◌≤◌, ◌^◌, Bool, true, false, cond, ◌&&◌, List, drop, refl, nat_lt, codes, IsTrue, Option, None, Some, ltb-true}
 use Rattle.idl_tree.specs.declared.expressions.Expr.{Expr}
 use Rattle.idl_tree.specs.declared.expressions.Expr.TheVariants as e
 use Rattle.idl_tree.specs.declared.statements.Target.TheVariants as t
 use Rattle.idl_tree.specs.declared.statements.Stmt.{Stmt}
 use Rattle.idl_tree.specs.declared.statements.Stmt.TheVariants as s
+use Rattle.entry_tree.specs.declared.ParamEntry.{ParamEntry}
 use Rattle.first_bundle.specs.declared.statements.Operand.{Operand}
 use Rattle.first_bundle.specs.declared.statements.Operand.TheVariants.{Literal, Register}
 use Rattle.first_bundle.specs.declared.statements.Assignment.{Assignment}
-use Rattle.first_bundle.specs.Bundle.{IsValue, IsStatement}
+use Rattle.first_spec.specs.Bundle.{IsValue, IsStatement}
 use Rattle.first_bundle.specs.Statements.{read_digits, begins_with, literal_or_none, register_or_none, read_operand, read_second, read_value, read_target, read_statement, value_tree, assignment_tree, is_register}
 use Rattle.first_bundle.proofs.Clean.{left_so}
 
@@ -95,8 +96,8 @@ value_of (Literal k) (Some o) f h = absurd (cc h.0)
 value_of (Register n) (Some (Literal k)) f h = IsValue.plus_literal n k f h.1
 value_of (Register n) (Some (Register m)) f h = IsValue.plus_register n m f h.1
 
-pub statement_of : (a : Assignment) → IsAssignment a → IsStatement (assignment_tree a)
-statement_of a h = IsStatement.assign a.register (value_tree a.first a.second) h.register (value_of a.first a.second h.first h.second)
+pub statement_of : (ps : List ParamEntry) (depth : ℕ) (a : Assignment) → depth ≤ 8 → IsAssignment a → IsStatement ps depth (assignment_tree a)
+statement_of ps depth a d h = IsStatement.assign depth a.register (value_tree a.first a.second) d h.register (value_of a.first a.second h.first h.second)
 
 -- the assignment that a statement is
 pub record Assigns (x : Stmt) : Type 0 where
@@ -104,11 +105,8 @@ pub record Assigns (x : Stmt) : Type 0 where
   pub fine : IsAssignment assignment
   pub tree : assignment_tree assignment ≡ x
 
-assigned_value : (n : ℕ) (x : Expr) → n < 32 → IsValue x → Assigns (s.Assign (t.Register (e.Number n)) x)
-assigned_value n _ l (IsValue.literal k h) = record { assignment = record { register = n; first = Literal k; second = None }; fine = record { register = l; first = h; second = tt }; tree = refl }
-assigned_value n _ l (IsValue.register m h) = record { assignment = record { register = n; first = Register m; second = None }; fine = record { register = l; first = h; second = tt }; tree = refl }
-assigned_value n _ l (IsValue.plus_literal m k h g) = record { assignment = record { register = n; first = Register m; second = Some (Literal k) }; fine = record { register = l; first = h; second = (refl, g) }; tree = refl }
-assigned_value n _ l (IsValue.plus_register m k h g) = record { assignment = record { register = n; first = Register m; second = Some (Register k) }; fine = record { register = l; first = h; second = (refl, g) }; tree = refl }
-
-pub assigned : (x : Stmt) → IsStatement x → Assigns x
-assigned _ (IsStatement.assign n x l h) = assigned_value n x l h
+pub assigned : (n : ℕ) (x : Expr) → n < 32 → IsValue x → Assigns (s.Assign (t.Register (e.Number n)) x)
+assigned n _ l (IsValue.literal k h) = record { assignment = record { register = n; first = Literal k; second = None }; fine = record { register = l; first = h; second = tt }; tree = refl }
+assigned n _ l (IsValue.register m h) = record { assignment = record { register = n; first = Register m; second = None }; fine = record { register = l; first = h; second = tt }; tree = refl }
+assigned n _ l (IsValue.plus_literal m k h g) = record { assignment = record { register = n; first = Register m; second = Some (Literal k) }; fine = record { register = l; first = h; second = (refl, g) }; tree = refl }
+assigned n _ l (IsValue.plus_register m k h g) = record { assignment = record { register = n; first = Register m; second = Some (Register k) }; fine = record { register = l; first = h; second = (refl, g) }; tree = refl }

@@ -1,36 +1,49 @@
 -- What the entries that were read have by the way in which they are read.
-use Rattle.std.proofs.Common.{◌≡◌, ℕ, zero, suc, Bool, true, false, cond, List, [], ◌∷◌, ◌++◌, length, drop, refl, subst, codes, Option, None, Some, option_and_then}
+use Rattle.std.proofs.Common.{◌≡◌, ℕ, zero, suc, Bool, true, false, cond, List, [], ◌∷◌, ◌++◌, length, drop, refl, subst, codes, Option, None, Some, map}
 use Rattle.std.specs.Option.{option_map}
 use Rattle.udb_base.specs.declared.conditions.Cond.TheVariants.{Always}
 use Rattle.idl_tree.specs.declared.programs.Base.TheVariants as b
 use Rattle.idl_tree.specs.declared.statements.Stmt.{Stmt}
 use Rattle.entry_tree.specs.declared.ParamEntry.{ParamEntry}
 use Rattle.entry_tree.specs.declared.InstructionEntry.{InstructionEntry}
-use Rattle.entry_tree.specs.declared.ConfigKind.TheVariants.{Unconfigured}
+use Rattle.udb_base.specs.declared.conditions.Value.TheVariants.{Flag}
+use Rattle.entry_tree.specs.declared.ConfigKind.{ConfigKind}
+use Rattle.entry_tree.specs.declared.ConfigKind.TheVariants as kind
+use Rattle.entry_tree.specs.declared.Given.{Given}
 use Rattle.entry_tree.specs.declared.ConfigEntry.{ConfigEntry}
-use Rattle.first_bundle.specs.declared.statements.Assignment.{Assignment}
-use Rattle.first_bundle.specs.declared.bundle.FirstBundle.{FirstBundle}
+use Rattle.first_spec.specs.declared.bundle.FirstBundle.{FirstBundle}
 use Rattle.idl_tree.specs.Each.{Each}
-use Rattle.first_bundle.specs.Bundle.{digits_among, IsStatement}
-use Rattle.first_bundle.specs.Statements.{begins_with, read_statement, assignment_tree}
-use Rattle.first_bundle.specs.Reading.{param_of, after_param, is_param_part, params_onto, statements_onto, instruction_of, config_of, bundle_of}
-use Rattle.first_bundle.proofs.Operands.{Fine, statement_fine, statement_of}
+use Rattle.first_spec.specs.Bundle.{digits_among, AreStatements}
+use Rattle.first_bundle.specs.Lines.{until}
+use Rattle.first_bundle.specs.Statements.{begins_with}
+use Rattle.first_bundle.specs.Blocks.{read_body}
+use Rattle.first_bundle.specs.Reading.{param_of, after_param, is_param_part, params_onto, instruction_of, given_of, gives_params, kind_of, givens_of, config_of, bundle_of}
+use Rattle.first_bundle.proofs.Opened.{FineBody, body_fine}
 
 pub record ReadParam (x : ParamEntry) : Type 0 where
   pub defined : x.defined ≡ Always
   pub needs : x.needs ≡ Always
 
-pub record ReadInstruction (x : InstructionEntry) : Type 0 where
+pub record ReadInstruction (ps : List ParamEntry) (x : InstructionEntry) : Type 0 where
   pub assembly : x.assembly ≡ []
   pub base : x.base ≡ None
   pub encodings : x.encodings ≡ record { base = b.All; digits = digits_among x.encodings } ∷ []
   pub defined : x.defined ≡ Always
   pub variables : x.operation.variables ≡ []
-  pub statements : Each IsStatement x.operation.statements
+  pub statements : AreStatements ps 0 x.operation.statements
+
+-- a truth value is given
+pub record IsTruth (g : Given) : Type 0 where
+  pub truth : Bool
+  pub value : g.value ≡ Flag truth
+
+abbrev pub ReadGivens : ConfigKind → List Given → Type 0
+ReadGivens kind.Unconfigured gs = gs ≡ []
+ReadGivens kind.Partially gs = Each IsTruth gs
+ReadGivens kind.Fully gs = ⊥
 
 pub record ReadConfig (x : ConfigEntry) : Type 0 where
-  pub kind : x.kind ≡ Unconfigured
-  pub params : x.params ≡ []
+  pub gives : ReadGivens x.kind x.params
   pub mandatory : x.mandatory ≡ []
   pub prohibited : x.prohibited ≡ []
   pub additional : x.additional ≡ true
@@ -38,7 +51,7 @@ pub record ReadConfig (x : ConfigEntry) : Type 0 where
 
 pub record IsRead (x : FirstBundle) : Type 0 where
   pub params : Each ReadParam x.params
-  pub instruction : ReadInstruction x.instruction
+  pub instruction : ReadInstruction x.params x.instruction
   pub config : ReadConfig x.config
 
 each_more : {X : Type 0} (P : X → Type 0) (xs : List X) (y : X) → Each P xs → P y → Each P (xs ++ y ∷ [])
@@ -55,23 +68,15 @@ params_shaped : (n : ℕ) (done : List ParamEntry) (lines : List (List ℕ)) →
 params_shaped zero done lines h = h
 params_shaped (suc n) done lines h = param_shaped (is_param_part lines) n done lines h (params_shaped n)
 
--- ---- statements
+-- ---- given values
 
-abbrev AllFine : Option (List Stmt × List (List ℕ)) → Type 0
-AllFine None = Unit {0}
-AllFine (Some r) = Each IsStatement r.0
+givens_shaped : (ls : List (List ℕ)) → Each IsTruth (map given_of ls)
+givens_shaped [] = tt
+givens_shaped (l ∷ ls) = (record { truth = begins_with (codes ": true") (drop (length (until 58 (drop 2 l))) (drop 2 l)); value = refl }, givens_shaped ls)
 
-next_fine : (done : List Stmt) (ls : List (List ℕ)) (o : Option Assignment) → Fine o → Each IsStatement done → ((d : List Stmt) → Each IsStatement d → AllFine (statements_onto d ls)) → AllFine (option_and_then (λ (a : Assignment). statements_onto (done ++ assignment_tree a ∷ []) ls) o)
-next_fine done ls None f h more = tt
-next_fine done ls (Some a) f h more = more (done ++ assignment_tree a ∷ []) (each_more IsStatement done (assignment_tree a) h (statement_of a f))
-
-line_fine : (t : Bool) (done : List Stmt) (l : List ℕ) (ls : List (List ℕ)) → Each IsStatement done → ((d : List Stmt) → Each IsStatement d → AllFine (statements_onto d ls)) → AllFine (cond t (option_and_then (λ (a : Assignment). statements_onto (done ++ assignment_tree a ∷ []) ls) (read_statement (drop 2 l))) (Some (done, l ∷ ls)))
-line_fine true done l ls h more = next_fine done ls (read_statement (drop 2 l)) (statement_fine (drop 2 l)) h more
-line_fine false done l ls h more = h
-
-all_fine : (ls : List (List ℕ)) (done : List Stmt) → Each IsStatement done → AllFine (statements_onto done ls)
-all_fine [] done h = h
-all_fine (l ∷ ls) done h = line_fine (begins_with (codes "  ") l) done l ls h (all_fine ls)
+kind_shaped : (t : Bool) (ls : List (List ℕ)) → ReadGivens (cond t kind.Partially kind.Unconfigured) (cond t (map given_of ls) [])
+kind_shaped true ls = givens_shaped ls
+kind_shaped false ls = refl
 
 -- ---- the bundle
 
@@ -79,23 +84,23 @@ abbrev IsReadIfAny : Option FirstBundle → Type 0
 IsReadIfAny None = Unit {0}
 IsReadIfAny (Some x) = IsRead x
 
-instruction_shaped : (lines : List (List ℕ)) (xs : List Stmt) → Each IsStatement xs → ReadInstruction (instruction_of lines xs)
-instruction_shaped lines xs h = record { assembly = refl; base = refl; encodings = refl; defined = refl; variables = refl; statements = h }
+instruction_shaped : (ps : List ParamEntry) (lines : List (List ℕ)) (xs : List Stmt) → AreStatements ps 0 xs → ReadInstruction ps (instruction_of lines xs)
+instruction_shaped ps lines xs h = record { assembly = refl; base = refl; encodings = refl; defined = refl; variables = refl; statements = h }
 
 config_shaped : (lines : List (List ℕ)) → ReadConfig (config_of lines)
-config_shaped lines = record { kind = refl; params = refl; mandatory = refl; prohibited = refl; additional = refl; implemented = refl }
+config_shaped lines = record { gives = kind_shaped (gives_params lines) (drop 6 lines); mandatory = refl; prohibited = refl; additional = refl; implemented = refl }
 
 abbrev made : List ParamEntry → List (List ℕ) → List Stmt × List (List ℕ) → FirstBundle
 made params lines r = record { params = params; instruction = instruction_of lines r.0; config = config_of r.1 }
 
-last_shaped : (params : List ParamEntry) (lines : List (List ℕ)) (o : Option (List Stmt × List (List ℕ))) → Each ReadParam params → AllFine o → IsReadIfAny (option_map (made params lines) o)
+last_shaped : (params : List ParamEntry) (lines : List (List ℕ)) (o : Option (List Stmt × List (List ℕ))) → Each ReadParam params → FineBody params o → IsReadIfAny (option_map (made params lines) o)
 last_shaped params lines None p h = tt
-last_shaped params lines (Some r) p h = record { params = p; instruction = instruction_shaped lines r.0 h; config = config_shaped r.1 }
+last_shaped params lines (Some r) p h = record { params = p; instruction = instruction_shaped params lines r.0 h; config = config_shaped r.1 }
 
 read_shaped : (lines : List (List ℕ)) → IsReadIfAny (bundle_of lines)
 read_shaped lines =
     let front : List ParamEntry × List (List ℕ) = params_onto (length lines) [] lines in
-    last_shaped front.0 front.1 (statements_onto [] (drop 9 front.1)) (params_shaped (length lines) [] lines tt) (all_fine (drop 9 front.1) [] tt)
+    last_shaped front.0 front.1 (read_body front.0 (drop 9 front.1)) (params_shaped (length lines) [] lines tt) (body_fine front.0 (drop 9 front.1))
 
 pub is_read : (lines : List (List ℕ)) (x : FirstBundle) → bundle_of lines ≡ Some x → IsRead x
 is_read lines x e = subst IsReadIfAny e (read_shaped lines)

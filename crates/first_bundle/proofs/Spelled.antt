@@ -3,8 +3,8 @@ use Rattle.std.proofs.Common.{◌≡◌, ℕ, Bool, true, false, cond, List, ref
 use Rattle.std.specs.Cmp.Lexicographic.{bytes_decides}
 use Rattle.udb_spec.specs.Conditions.{same_bytes}
 use Rattle.idl_tree.specs.Print.{text_of_lines}
-use Rattle.first_bundle.specs.declared.bundle.FirstBundle.{FirstBundle}
-use Rattle.first_bundle.specs.Bundle.{bundle_lines, Spells}
+use Rattle.first_spec.specs.declared.bundle.FirstBundle.{FirstBundle}
+use Rattle.first_spec.specs.Bundle.{bundle_lines, Spells}
 use Rattle.first_bundle.specs.Lines.{split_lines}
 use Rattle.first_bundle.specs.Reading.{bundle_of}
 use Rattle.first_bundle.specs.Checks.{bundle_passes, is_spelled, if_spelled, spelled_by}
@@ -42,3 +42,10 @@ read_one bytes (Err f) e x h = tt
 pub read_none : {E : Type 0} (bytes : List ℕ) (r : Result (Option FirstBundle) E) → IfOk r (λ o. o ≡ spelled_by bytes) → IfOk r (λ o. o ≡ None → (x : FirstBundle) → Spells bytes x → ⊥)
 read_none bytes (Ok o) e = λ n x h. let some : o ≡ Some x = e ∙ one bytes x h in cc
 read_none bytes (Err f) e = tt
+
+-- bytes spell at most one bundle
+pub one_bundle : (bytes : List ℕ) (x y : FirstBundle) → Spells bytes x → Spells bytes y → x ≡ y
+one_bundle bytes x y h k = same_bundle x y (sym (one bytes x h) ∙ one bytes y k)
+  where
+    same_bundle : (a b : FirstBundle) → Some a ≡ Some b → a ≡ b
+    same_bundle a b e = cc

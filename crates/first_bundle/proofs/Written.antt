@@ -11,7 +11,7 @@ use Rattle.idl_tree.proofs.Printed.{width_form-Number, expr_form-Number, expr_fo
 use Rattle.first_bundle.specs.declared.statements.Operand.{Operand}
 use Rattle.first_bundle.specs.declared.statements.Operand.TheVariants.{Literal, Register}
 use Rattle.first_bundle.specs.declared.statements.Assignment.{Assignment}
-use Rattle.first_bundle.specs.Alphabets.{is_digit}
+use Rattle.first_spec.specs.Alphabets.{is_digit}
 use Rattle.first_bundle.specs.Statements.{literal_or_none, register_or_none, read_operand, read_second, read_value, read_target, read_statement, operand_tree, value_tree, assignment_tree}
 use Rattle.first_bundle.proofs.Clean.{is_clean, clean, all_joined, clean-decimal}
 use Rattle.first_bundle.proofs.Digits.{read_decimal}

@@ -14,3 +14,8 @@ plain_byte b = if nat_lt b 128 then b else 63
 
 abbrev pub plain : List ℕ → List ℕ
 plain bytes = map plain_byte bytes
+
+-- what stands before a byte; all where the byte isn't there
+abbrev pub until : ℕ → List ℕ → List ℕ
+until byte [] = []
+until byte (b ∷ bs) = if b == byte then [] else b ∷ until byte bs

@@ -1,19 +1,23 @@
 -- How the lines of a bundle are read: by their places, whatever stands there. Whether the entries
 -- that come out are ones of a bundle, and whether the lines are theirs, is examined afterwards.
-use Rattle.std.specs.Prelude.{◌++◌, Bool, true, ℕ, zero, suc, List, [], ◌∷◌, length, drop, slice_index_or, codes, Option, None, Some, if◌then◌else◌, option_and_then}
+use Rattle.std.specs.Prelude.{◌++◌, Bool, true, ℕ, zero, suc, List, [], ◌∷◌, map, length, drop, slice_index_or, codes, Option, None, Some, if◌then◌else◌}
 use Rattle.std.specs.Option.{option_map}
 use Rattle.udb_base.specs.declared.conditions.Cond.TheVariants.{Always}
+use Rattle.udb_base.specs.declared.conditions.Value.TheVariants.{Flag}
 use Rattle.udb_base.specs.declared.spaces.Domain.{Domain}
 use Rattle.udb_base.specs.declared.spaces.Domain.TheVariants.{Flags, Numbers}
 use Rattle.idl_tree.specs.declared.programs.Base.TheVariants.{All}
 use Rattle.idl_tree.specs.declared.statements.Stmt.{Stmt}
 use Rattle.entry_tree.specs.declared.ParamEntry.{ParamEntry}
 use Rattle.entry_tree.specs.declared.InstructionEntry.{InstructionEntry}
-use Rattle.entry_tree.specs.declared.ConfigKind.TheVariants.{Unconfigured}
+use Rattle.entry_tree.specs.declared.ConfigKind.{ConfigKind}
+use Rattle.entry_tree.specs.declared.ConfigKind.TheVariants.{Unconfigured, Partially}
+use Rattle.entry_tree.specs.declared.Given.{Given}
 use Rattle.entry_tree.specs.declared.ConfigEntry.{ConfigEntry}
-use Rattle.first_bundle.specs.declared.bundle.FirstBundle.{FirstBundle}
-use Rattle.first_bundle.specs.Lines.{plain}
-use Rattle.first_bundle.specs.Statements.{begins_with, read_statement, assignment_tree}
+use Rattle.first_spec.specs.declared.bundle.FirstBundle.{FirstBundle}
+use Rattle.first_bundle.specs.Lines.{plain, until}
+use Rattle.first_bundle.specs.Statements.{begins_with}
+use Rattle.first_bundle.specs.Blocks.{read_body}
 
 abbrev pub nth : ℕ → List (List ℕ) → List ℕ
 nth at lines = slice_index_or lines at []
@@ -43,14 +47,6 @@ abbrev pub params_onto : ℕ → List ParamEntry → List (List ℕ) → List Pa
 params_onto zero params lines = (params, lines)
 params_onto (suc n) params lines = if is_param_part lines then params_onto n (params ++ param_of lines ∷ []) (after_param lines) else (params, lines)
 
--- the statements of the lines at the front that begin with two spaces, and the rest
-abbrev pub statements_onto : List Stmt → List (List ℕ) → Option (List Stmt × List (List ℕ))
-statements_onto done [] = Some (done, [])
-statements_onto done (l ∷ ls) =
-    if begins_with (codes "  ") l
-    then option_and_then (λ a. statements_onto (done ++ assignment_tree a ∷ []) ls) (read_statement (drop 2 l))
-    else Some (done, l ∷ ls)
-
 abbrev pub instruction_of : List (List ℕ) → List Stmt → InstructionEntry
 instruction_of lines statements =
     record {
@@ -64,13 +60,28 @@ instruction_of lines statements =
       operation = record { variables = []; statements = statements };
     }
 
+-- a line that gives a value
+abbrev pub given_of : List ℕ → Given
+given_of line =
+    let name = until 58 (drop 2 line)
+    in record { name = plain name; value = Flag (begins_with (codes ": true") (drop (length name) (drop 2 line))) }
+
+abbrev pub gives_params : List (List ℕ) → Bool
+gives_params lines = begins_with (codes "type: partially") (nth 3 lines)
+
+abbrev pub kind_of : List (List ℕ) → ConfigKind
+kind_of lines = if gives_params lines then Partially else Unconfigured
+
+abbrev pub givens_of : List (List ℕ) → List Given
+givens_of lines = if gives_params lines then map given_of (drop 6 lines) else []
+
 abbrev pub config_of : List (List ℕ) → ConfigEntry
 config_of lines =
     record {
       name = field 6 2 lines;
       description = field 13 4 lines;
-      kind = Unconfigured;
-      params = [];
+      kind = kind_of lines;
+      params = givens_of lines;
       mandatory = [];
       prohibited = [];
       additional = true;
@@ -81,7 +92,7 @@ config_of lines =
 abbrev pub bundle_after : List ParamEntry → List (List ℕ) → Option FirstBundle
 bundle_after params lines =
     option_map (λ r. record { params = params; instruction = instruction_of lines r.0; config = config_of r.1 })
-    (statements_onto [] (drop 9 lines))
+    (read_body params (drop 9 lines))
 
 abbrev pub bundle_of : List (List ℕ) → Option FirstBundle
 bundle_of lines = let front = params_onto (length lines) [] lines in bundle_after front.0 front.1

@@ -11,7 +11,7 @@ use Rattle.idl_tree.specs.declared.statements.Stmt.TheVariants as s
 use Rattle.first_bundle.specs.declared.statements.Operand.{Operand}
 use Rattle.first_bundle.specs.declared.statements.Operand.TheVariants.{Literal, Register}
 use Rattle.first_bundle.specs.declared.statements.Assignment.{Assignment}
-use Rattle.first_bundle.specs.Alphabets.{is_digit}
+use Rattle.first_spec.specs.Alphabets.{is_digit}
 
 -- a number with one more digit, up to the last of 64 bits
 abbrev pub with_digit : ℕ → ℕ → ℕ

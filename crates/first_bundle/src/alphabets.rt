@@ -3,7 +3,7 @@
 ghost use Rattle.std.specs.Prelude.{◌≡◌, ◌==◌, ◌+◌, ◌<◌, length, drop, if◌then◌else◌};
 ghost use Rattle.std.specs.List.{list_all, list_any};
 ghost use Rattle.udb_spec.specs.Conditions.{same_bytes};
-ghost use Rattle.first_bundle.specs.Alphabets.{is_upper, is_lower, is_letter, is_letter_or_digit, is_word_byte, is_dotted_byte, begins, is_plain_word, is_idl_type, is_idl_member, is_parameter_name, is_instruction_name, is_config_name, is_spaced, is_text, is_fixed_digit, is_match_digit, is_match};
+ghost use Rattle.first_spec.specs.Alphabets.{is_upper, is_lower, is_letter, is_letter_or_digit, is_word_byte, is_dotted_byte, begins, is_plain_word, is_idl_type, is_idl_member, is_parameter_name, is_instruction_name, is_config_name, is_spaced, is_text, is_fixed_digit, is_match_digit, is_match};
 
 use crate::lines::past;
 

@@ -1,18 +1,20 @@
 //! Whether entries that were read are those of a bundle.
 
-ghost use Rattle.std.specs.Prelude.{◌≡◌, ◌∷◌, [], IfOk};
+ghost use Rattle.std.specs.Prelude.{◌≡◌, ◌∷◌, [], map, IfOk};
 ghost use Rattle.std.specs.List.{list_all, list_any};
 ghost use Rattle.std.specs.Cmp.Lexicographic.{slice_cmp};
 ghost use Rattle.std.specs.Ordering.{nat_cmp, is_lt};
 ghost use Rattle.udb_spec.specs.Conditions.{same_bytes};
-ghost use Rattle.first_bundle.specs.Checks.{fits, is_mxlen, is_switch, plain_param_passes, param_passes, rises_from, plain_instruction_passes, instruction_passes, plain_config_passes, config_passes, names_pass, bundle_passes};
+ghost use Rattle.first_spec.specs.Bundle.{is_switch_name};
+ghost use Rattle.first_bundle.specs.Checks.{fits, is_mxlen, is_switch, plain_param_passes, param_passes, rises_from, plain_instruction_passes, instruction_passes, plain_config_passes, gives_pass, config_passes, names_pass, bundle_passes};
 
 use crate::alphabets::{
     is, is_config_name, is_instruction_name, is_match, is_parameter_name, is_text,
 };
-use crate::bundle::FirstBundle;
-use crate::printing::{digits, lines_of_config, lines_of_instruction, lines_of_param};
-use entry_tree::{ConfigEntry, InstructionEntry, ParamEntry};
+use crate::blocks::is_switch_name;
+use crate::printing::{lines_of_config, lines_of_instruction, lines_of_param, match_digits};
+use entry_tree::{ConfigEntry, ConfigKind, Given, InstructionEntry, ParamEntry};
+use first_spec::FirstBundle;
 use std::alloc::Global;
 use udb_base::{Chars, Domain, NoMemory};
 
@@ -90,7 +92,7 @@ fn is_below(name: &[u8], other: &[u8]) -> bool
 }
 
 fn rises(params: &[ParamEntry]) -> bool
-    ensures { result ≡ rises_from [] params.now }
+    ensures { result ≡ rises_from [] (map (λ p. p.name) params.now) }
 {
     let mut before: &[u8] = &[];
     for param in params {
@@ -126,7 +128,7 @@ fn plain_instruction_passes(entry: &InstructionEntry) -> bool
     is_instruction_name(entry.name.as_str().as_bytes())
         && is_text(entry.long_name.as_bytes())
         && is_text(entry.description.as_bytes())
-        && is_match(digits(entry.encodings.as_slice()).as_bytes())
+        && is_match(match_digits(entry.encodings.as_slice()).as_bytes())
         && entry.operation.statements.as_slice().len() >= 1
 }
 
@@ -146,10 +148,50 @@ fn plain_config_passes(entry: &ConfigEntry) -> bool
     is_config_name(entry.name.as_str().as_bytes()) && is_text(entry.description.as_bytes())
 }
 
-fn config_passes(alloc: Global, entry: &ConfigEntry) -> Result<bool, NoMemory>
-    ensures { IfOk result (λ passes. passes ≡ config_passes entry.now) }
+fn all_switches(params: &[ParamEntry], givens: &[Given]) -> bool
+    ensures { result ≡ list_all (λ g. is_switch_name params.now g.name) givens.now }
 {
-    if !plain_config_passes(entry) {
+    for given in givens {
+        if !is_switch_name(params, given.name.as_str().as_bytes()) {
+            return false;
+        }
+    }
+    true
+}
+
+fn givens_rise(givens: &[Given]) -> bool
+    ensures { result ≡ rises_from [] (map (λ g. g.name) givens.now) }
+{
+    let mut before: &[u8] = &[];
+    for given in givens {
+        let name = given.name.as_str().as_bytes();
+        if !is_below(before, name) {
+            return false;
+        }
+        before = name;
+    }
+    true
+}
+
+fn gives_pass(params: &[ParamEntry], kind: &ConfigKind, givens: &[Given]) -> bool
+    ensures { result ≡ gives_pass params.now kind.now givens.now }
+{
+    match kind {
+        ConfigKind::Partially => {
+            givens.len() >= 1 && all_switches(params, givens) && givens_rise(givens)
+        }
+        _ => true,
+    }
+}
+
+fn config_passes(
+    alloc: Global,
+    params: &[ParamEntry],
+    entry: &ConfigEntry,
+) -> Result<bool, NoMemory>
+    ensures { IfOk result (λ passes. passes ≡ config_passes params.now entry.now) }
+{
+    if !plain_config_passes(entry) || !gives_pass(params, &entry.kind, entry.params.as_slice()) {
         return Ok(false);
     }
     let lines = lines_of_config(alloc, entry)?;
@@ -169,5 +211,5 @@ pub fn bundle_passes(alloc: Global, bundle: &FirstBundle) -> Result<bool, NoMemo
     if !instruction_passes(alloc, &bundle.instruction)? {
         return Ok(false);
     }
-    config_passes(alloc, &bundle.config)
+    config_passes(alloc, bundle.params.as_slice(), &bundle.config)
 }

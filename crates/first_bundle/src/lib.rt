@@ -3,15 +3,14 @@
 #![tactic(auto)]
 
 mod alphabets;
-mod bundle;
+mod blocks;
 mod checking;
 mod lines;
 mod printing;
 mod reader;
 mod reading;
 mod statements;
-#[cfg(test)]
-mod tests;
 
-pub use bundle::{FirstBundle, ParamEntries};
+pub use first_spec::{FirstBundle, ParamEntries};
+pub use printing::match_digits;
 pub use reader::read_first;

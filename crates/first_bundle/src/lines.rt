@@ -1,7 +1,7 @@
 //! Lines, and the texts that stand in them.
 
 ghost use Rattle.std.specs.Prelude.{◌≡◌, [], drop, slice_index_or, string_bytes, IfOk};
-ghost use Rattle.first_bundle.specs.Lines.{split_lines, plain};
+ghost use Rattle.first_bundle.specs.Lines.{split_lines, plain, until};
 
 use std::alloc::Global;
 use udb_base::{Many, NoMemory};
@@ -64,4 +64,16 @@ pub fn plain_text(alloc: Global, bytes: &[u8]) -> Result<String, NoMemory>
         text.push(char::from(shown))?;
     }
     Ok(text)
+}
+
+/// What stands before a byte; all where the byte isn't there.
+pub fn until(text: &[u8], byte: u8) -> &[u8]
+    ensures { result.now ≡ until byte text.now }
+{
+    for (at, other) in text.iter().enumerate() {
+        if *other == byte {
+            return &text[..at];
+        }
+    }
+    text
 }

@@ -3,13 +3,13 @@
 ghost use Rattle.std.specs.Prelude.{◌≡◌, ◌++◌, ◌∷◌, [], length, IfOk, OnOk, map, codes};
 ghost use Rattle.std.specs.Fmt.{decimal};
 ghost use Rattle.idl_tree.specs.Print.{body_lines, text_of_lines};
-ghost use Rattle.first_bundle.specs.Bundle.{bundle_part, schema_lines, param_lines, instruction_lines, config_lines, params_lines, bundle_lines, digits_among};
+ghost use Rattle.first_spec.specs.Bundle.{bundle_part, schema_lines, param_lines, instruction_lines, value_word, given_line, kind_line, given_lines, config_lines, params_lines, bundle_lines, digits_among};
 
-use crate::bundle::FirstBundle;
-use entry_tree::{ConfigEntry, Encoding, InstructionEntry, ParamEntry};
+use entry_tree::{ConfigEntry, ConfigKind, Encoding, Given, InstructionEntry, ParamEntry};
+use first_spec::FirstBundle;
 use idl_tree::{Lines, body_lines};
 use std::alloc::Global;
-use udb_base::{Chars, Domain, Many, NoMemory};
+use udb_base::{Chars, Domain, Many, NoMemory, Value};
 
 fn line(alloc: Global, text: &str) -> Result<Chars, NoMemory>
     ensures { IfOk result (λ line. line ≡ text.now) }
@@ -72,7 +72,7 @@ pub fn lines_of_param(alloc: Global, param: &ParamEntry) -> Result<Lines, NoMemo
 }
 
 /// The digits of the first encoding, where there is one.
-pub fn digits(encodings: &[Encoding]) -> &str
+pub fn match_digits(encodings: &[Encoding]) -> &str
     ensures { result.now ≡ digits_among encodings.now }
 {
     match encodings {
@@ -90,6 +90,53 @@ fn push_indented(alloc: Global, lines: &mut Lines, body: &Lines) -> Result<(), N
     Ok(())
 }
 
+fn value_word(value: &Value) -> &'static str
+    ensures { result.now ≡ value_word value.now }
+{
+    match value {
+        Value::Flag(true) => "true",
+        _ => "false",
+    }
+}
+
+fn line_of_given(alloc: Global, given: &Given) -> Result<Chars, NoMemory>
+    ensures { IfOk result (λ line. line ≡ given_line given.now) }
+{
+    let mut line = labelled(alloc, "  ", given.name.as_str())?;
+    line.push_str(": ")?;
+    line.push_str(value_word(&given.value))?;
+    Ok(line)
+}
+
+fn push_givens(alloc: Global, lines: &mut Lines, givens: &[Given]) -> Result<(), NoMemory>
+    ensures { OnOk result (lines.new ≡ lines.old ++ map given_line givens.now) }
+{
+    for given in givens {
+        lines.push(line_of_given(alloc, given)?)?;
+    }
+    Ok(())
+}
+
+fn kind_line(kind: &ConfigKind) -> &'static str
+    ensures { result.now ≡ kind_line kind.now }
+{
+    match kind {
+        ConfigKind::Partially => "type: partially configured",
+        _ => "type: unconfigured",
+    }
+}
+
+fn lines_of_givens(alloc: Global, kind: &ConfigKind, givens: &[Given]) -> Result<Lines, NoMemory>
+    ensures { IfOk result (λ lines. lines ≡ given_lines kind.now givens.now) }
+{
+    let mut lines = Many::new(alloc);
+    if let ConfigKind::Partially = kind {
+        lines.push(line(alloc, "params:")?)?;
+        push_givens(alloc, &mut lines, givens)?;
+    }
+    Ok(lines)
+}
+
 /// The lines of a configuration after its heading.
 pub fn lines_of_config(alloc: Global, config: &ConfigEntry) -> Result<Lines, NoMemory>
     ensures { IfOk result (λ lines. lines ≡ config_lines config.now) }
@@ -97,8 +144,9 @@ pub fn lines_of_config(alloc: Global, config: &ConfigEntry) -> Result<Lines, NoM
     let mut lines = Many::new(alloc);
     lines.push(line(alloc, "kind: architecture configuration")?)?;
     lines.push(labelled(alloc, "name: ", config.name.as_str())?)?;
-    lines.push(line(alloc, "type: unconfigured")?)?;
+    lines.push(line(alloc, kind_line(&config.kind))?)?;
     lines.push(labelled(alloc, "description: ", config.description.as_str())?)?;
+    lines.append(lines_of_givens(alloc, &config.kind, config.params.as_slice())?)?;
     Ok(lines)
 }
 
@@ -113,7 +161,11 @@ fn lines_before_body(alloc: Global, instruction: &InstructionEntry) -> Result<Li
     lines.push(labelled(alloc, "description: ", instruction.description.as_str())?)?;
     lines.push(line(alloc, "assembly: \"\"")?)?;
     lines.push(line(alloc, "encoding:")?)?;
-    lines.push(labelled(alloc, "  match: ", digits(instruction.encodings.as_slice()))?)?;
+    lines.push(labelled(
+        alloc,
+        "  match: ",
+        match_digits(instruction.encodings.as_slice()),
+    )?)?;
     lines.push(line(alloc, "operation(): |")?)?;
     Ok(lines)
 }

@@ -3,15 +3,15 @@
 ghost use Rattle.std.specs.Prelude.{◌≡◌, IfOk, IfSome, None, Some};
 ghost use Rattle.udb_spec.specs.Conditions.{same_bytes};
 ghost use Rattle.idl_tree.specs.Print.{text_of_lines};
-ghost use Rattle.first_bundle.specs.declared.bundle.FirstBundle.{FirstBundle};
-ghost use Rattle.first_bundle.specs.Bundle.{bundle_lines, Spells};
+ghost use Rattle.first_spec.specs.declared.bundle.FirstBundle.{FirstBundle};
+ghost use Rattle.first_spec.specs.Bundle.{bundle_lines, Spells};
 ghost use Rattle.first_bundle.specs.Checks.{is_spelled, if_spelled, spelled_by};
 
-use crate::bundle::FirstBundle;
 use crate::checking::bundle_passes;
 use crate::lines::split;
 use crate::printing::text_of_bundle;
 use crate::reading::entries;
+use first_spec::FirstBundle;
 use std::alloc::Global;
 use udb_base::NoMemory;
 

@@ -1,16 +1,16 @@
 //! The lines of a bundle as its entries.
 
-ghost use Rattle.std.specs.Prelude.{◌≡◌, length, IfOk, []};
-ghost use Rattle.std.specs.Option.{option_map};
-ghost use Rattle.first_bundle.specs.Reading.{field, is_switch_part, domain_of, param_of, after_param, is_param_part, params_onto, statements_onto, instruction_of, config_of, bundle_after, bundle_of};
+ghost use Rattle.std.specs.Prelude.{◌≡◌, map, length, IfOk, []};
+ghost use Rattle.first_bundle.specs.Reading.{field, is_switch_part, domain_of, param_of, after_param, is_param_part, params_onto, given_of, gives_params, kind_of, givens_of, instruction_of, config_of, bundle_after, bundle_of};
 
-use crate::bundle::{FirstBundle, ParamEntries};
-use crate::lines::{Line, line_at, lines_from, past, plain_text};
-use crate::statements::{assignment_of, begins, tree_of_assignment};
-use entry_tree::{ConfigEntry, ConfigKind, Encoding, InstructionEntry, ParamEntry};
+use crate::blocks::body;
+use crate::lines::{Line, line_at, lines_from, past, plain_text, until};
+use crate::statements::begins;
+use entry_tree::{ConfigEntry, ConfigKind, Encoding, Given, Givens, InstructionEntry, ParamEntry};
+use first_spec::{FirstBundle, ParamEntries};
 use idl_tree::{Base, Body, Stmts};
 use std::alloc::Global;
-use udb_base::{Chars, Cond, Domain, Many, Name, NoMemory};
+use udb_base::{Chars, Cond, Domain, Many, Name, NoMemory, Value};
 
 fn text_field(alloc: Global, lines: &[Line], at: usize, skip: usize) -> Result<Chars, NoMemory>
     ensures { IfOk result (λ text. text ≡ field skip at lines.now) }
@@ -86,24 +86,6 @@ fn params(alloc: Global, lines: &[Line]) -> Result<(ParamEntries, &[Line]), NoMe
     Ok((params, rest))
 }
 
-// The statements of a body at the front, and the lines after it.
-fn statements(alloc: Global, lines: &[Line]) -> Result<Option<(Stmts, &[Line])>, NoMemory>
-    ensures { IfOk result (λ o. option_map (λ r. (r.0, r.1.now)) o ≡ statements_onto [] lines.now) }
-{
-    let mut statements = Many::new(alloc);
-    for (at, line) in lines.iter().enumerate() {
-        let text = line.as_slice();
-        if !begins(text, b"  ") {
-            return Ok(Some((statements, lines_from(lines, at))));
-        }
-        match assignment_of(past(text, 2)) {
-            Some(assignment) => statements.push(tree_of_assignment(alloc, assignment)?)?,
-            None => return Ok(None),
-        }
-    }
-    Ok(Some((statements, &[])))
-}
-
 fn instruction(
     alloc: Global,
     lines: &[Line],
@@ -132,14 +114,64 @@ fn instruction(
     })
 }
 
+// A line that gives a value.
+fn given(alloc: Global, line: &[u8]) -> Result<Given, NoMemory>
+    ensures { IfOk result (λ given. given ≡ given_of line.now) }
+{
+    let text = past(line, 2);
+    let name = until(text, b':');
+    let truth = begins(past(text, name.len()), b": true");
+    let name = plain_text(alloc, name)?;
+    Ok(Given {
+        name: Name::of(alloc, name.as_str())?,
+        value: Value::Flag(truth),
+    })
+}
+
+fn gives(lines: &[Line]) -> bool
+    ensures { result ≡ gives_params lines.now }
+{
+    begins(line_at(lines, 3), b"type: partially")
+}
+
+fn kind(lines: &[Line]) -> ConfigKind
+    ensures { result ≡ kind_of lines.now }
+{
+    if gives(lines) {
+        ConfigKind::Partially
+    } else {
+        ConfigKind::Unconfigured
+    }
+}
+
+fn given_each(alloc: Global, lines: &[Line]) -> Result<Givens, NoMemory>
+    ensures { IfOk result (λ givens. givens ≡ map given_of lines.now) }
+{
+    let mut givens = Many::new(alloc);
+    for line in lines {
+        givens.push(given(alloc, line.as_slice())?)?;
+    }
+    Ok(givens)
+}
+
+fn givens(alloc: Global, lines: &[Line]) -> Result<Givens, NoMemory>
+    ensures { IfOk result (λ givens. givens ≡ givens_of lines.now) }
+{
+    if gives(lines) {
+        given_each(alloc, lines_from(lines, 6))
+    } else {
+        Ok(Many::new(alloc))
+    }
+}
+
 fn config(alloc: Global, lines: &[Line]) -> Result<ConfigEntry, NoMemory>
     ensures { IfOk result (λ entry. entry ≡ config_of lines.now) }
 {
     Ok(ConfigEntry {
         name: name_field(alloc, lines, 2, 6)?,
         description: text_field(alloc, lines, 4, 13)?,
-        kind: ConfigKind::Unconfigured,
-        params: Many::new(alloc),
+        kind: kind(lines),
+        params: givens(alloc, lines)?,
         mandatory: Many::new(alloc),
         prohibited: Many::new(alloc),
         additional: true,
@@ -154,7 +186,7 @@ fn rest_of_bundle(
 ) -> Result<Option<FirstBundle>, NoMemory>
     ensures { IfOk result (λ bundle. bundle ≡ bundle_after params lines.now) }
 {
-    match statements(alloc, lines_from(lines, 9))? {
+    match body(alloc, params.as_slice(), lines_from(lines, 9))? {
         None => Ok(None),
         Some((statements, rest)) => {
             let instruction = instruction(alloc, lines, statements)?;

@@ -1,6 +1,6 @@
 use Rattle.std.proofs.Common.{◌≡◌, drop}
 use Rattle.std.specs.List.{list_all}
-use Rattle.first_bundle.specs.Alphabets.{is_match_digit}
+use Rattle.first_spec.specs.Alphabets.{is_match_digit}
 use Rattle.first_bundle.proofs.alphabets.all_digits.Given as goal
 
 abbrev pub invariant-loop-digit : goal.invariant-loop-digit

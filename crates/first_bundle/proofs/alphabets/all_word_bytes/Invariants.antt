@@ -1,6 +1,6 @@
 use Rattle.std.proofs.Common.{◌≡◌, drop}
 use Rattle.std.specs.List.{list_all}
-use Rattle.first_bundle.specs.Alphabets.{is_word_byte}
+use Rattle.first_spec.specs.Alphabets.{is_word_byte}
 use Rattle.first_bundle.proofs.alphabets.all_word_bytes.Given as goal
 
 abbrev pub invariant-loop-byte : goal.invariant-loop-byte

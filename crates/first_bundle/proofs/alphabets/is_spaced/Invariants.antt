@@ -1,5 +1,5 @@
 use Rattle.std.proofs.Common.{◌≡◌, drop}
-use Rattle.first_bundle.specs.Alphabets.{is_spaced}
+use Rattle.first_spec.specs.Alphabets.{is_spaced}
 use Rattle.first_bundle.proofs.alphabets.is_spaced.Given as goal
 
 abbrev pub invariant-loop-at : goal.invariant-loop-at
