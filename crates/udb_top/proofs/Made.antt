@@ -1,69 +1,55 @@
--- The manual that is made keeps every outcome and is settled.
-use Rattle.std.proofs.Common.{◌≡◌, ◌<◌, ◌++◌, ℕ, Bool, true, false, List, [], ◌∷◌, map, refl, ap, sym, ◌∙◌, subst, arith, length}
-use Rattle.std.specs.Prelude.{All, Contains, slice_index_or}
-use Rattle.std.proofs.lemmas.List.Elements.{All-nil, All-cons, All-head, All-tail, All-append, All-map}
+-- The manual that is made of a completion and of statements that keep the meaning and are settled.
+use Rattle.std.proofs.Common.{◌≡◌, ◌++◌, ℕ, List, [], ◌∷◌, map, Result, Ok, Err, IfOk, subst, sym, ap, ◌∙◌}
+use Rattle.std.specs.Prelude.{All}
+use Rattle.std.proofs.lemmas.List.Elements.{All-nil, All-cons, All-append, All-map}
 use Rattle.udb_base.specs.declared.spaces.Space.{Space}
 use Rattle.udb_base.specs.declared.spaces.Full.{Full}
-use Rattle.udb_base.specs.declared.spaces.ParamSpace.{ParamSpace}
-use Rattle.udb_base.specs.declared.refutations.Partial.{Partial}
+use Rattle.udb_spec.specs.Spaces.{Completes}
 use Rattle.idl_tree.specs.declared.statements.Stmt.{Stmt}
-use Rattle.idl_spec.specs.Places.{Place, places}
-use Rattle.idl_spec.specs.Words.{words}
 use Rattle.entry_tree.specs.declared.ParamEntry.{ParamEntry}
 use Rattle.entry_tree.specs.declared.InstructionEntry.{InstructionEntry}
-use Rattle.first_bundle.specs.declared.bundle.FirstBundle.{FirstBundle}
-use Rattle.first_bundle.specs.Bundle.{IsStatement, IsInstruction, IsFirst, Spells}
+use Rattle.first_spec.specs.declared.bundle.FirstBundle.{FirstBundle}
+use Rattle.first_spec.specs.Bundle.{IsFirst, Spells}
+use Rattle.first_prune.specs.Known.{entries_of, partial_of}
 use Rattle.manual_spec.specs.declared.manuals.Part.{Part}
-use Rattle.manual_spec.specs.Entries.{Entries, space_of}
-use Rattle.manual_spec.specs.Covers.{Covers}
+use Rattle.manual_spec.specs.declared.manuals.Manual.{Manual}
+use Rattle.manual_spec.specs.Entries.{space_of}
 use Rattle.manual_spec.specs.Faithful.{KeepsMean, FaithfulShown, Faithful}
-use Rattle.manual_spec.specs.Settled.{SettledBody, SettledShown, Settled, IsOpen, NoLiteral, HasOneValue}
+use Rattle.manual_spec.specs.Settled.{SettledBody, SettledShown, Settled}
 use Rattle.manual_spec.specs.Text.{manual_text}
-use Rattle.udb_top.specs.Making.{entries_of, partial_of, first_completion, param_part, instruction_part, made_manual}
+use Rattle.udb_top.specs.Making.{param_part, instruction_part, manual_with, IsManual, IsManualText}
 use Rattle.udb_top.specs.Run.{ShowsManual}
 use Rattle.udb_top.proofs.Shown.{made_covers}
-use Rattle.udb_top.proofs.Straight.{never_stuck, no_words, no_places}
 
-whole_kept : (space : Space) (part : Partial) (x : InstructionEntry) → All IsStatement x.operation.statements → KeepsMean space part x x.operation.statements
-whole_kept space part x h full complete has state is_state = record { same = refl; never_stuck = never_stuck space full x.operation.statements h state }
+module _ (x : FirstBundle) (full : Full) (shown : List Stmt) where
+  made_faithful : KeepsMean (space_of (entries_of x)) (partial_of x.config) x.instruction shown → Faithful (entries_of x) (partial_of x.config) (manual_with x full shown)
+  made_faithful keeps =
+      let P : Part → Type 0 = λ p. FaithfulShown (entries_of x) (partial_of x.config) p.name p.shown in
+      let Q : InstructionEntry → Type 0 = λ i. i.name ≡ x.instruction.name → KeepsMean (space_of (entries_of x)) (partial_of x.config) i shown in
+      All-append P (map (param_part full) x.params) (instruction_part full x.instruction shown ∷ [])
+      (All-map P (param_part full) x.params (λ k d l. tt))
+      (All-cons P (instruction_part full x.instruction shown) [] (All-cons Q x.instruction [] (λ _. keeps) (All-nil Q)) (All-nil P))
 
-pub made_faithful : (x : FirstBundle) → IsFirst x → Faithful (entries_of x) (partial_of x.config) (made_manual x)
-made_faithful x h =
-    let P : Part → Type 0 = λ p. FaithfulShown (entries_of x) (partial_of x.config) p.name p.shown in
-    All-append P (map (param_part (first_completion x.params)) x.params) (instruction_part (first_completion x.params) x.instruction ∷ [])
-    (All-map P (param_part (first_completion x.params)) x.params (λ k d l. tt))
-    (All-cons P (instruction_part (first_completion x.params) x.instruction) []
-    (All-cons (λ i. i.name ≡ x.instruction.name → KeepsMean (space_of (entries_of x)) (partial_of x.config) i x.instruction.operation.statements) x.instruction [] (λ _. whole_kept (space_of (entries_of x)) (partial_of x.config) x.instruction h.instruction.statements) (All-nil (λ i. i.name ≡ x.instruction.name → KeepsMean (space_of (entries_of x)) (partial_of x.config) i x.instruction.operation.statements)))
-    (All-nil P))
+  made_settled : SettledBody (space_of (entries_of x)) (partial_of x.config) shown → Settled (space_of (entries_of x)) (partial_of x.config) (manual_with x full shown)
+  made_settled settled =
+      let P : Part → Type 0 = λ p. SettledShown (space_of (entries_of x)) (partial_of x.config) p.shown in
+      All-append P (map (param_part full) x.params) (instruction_part full x.instruction shown ∷ [])
+      (All-map P (param_part full) x.params (λ k d l. tt))
+      (All-cons P (instruction_part full x.instruction shown) [] settled (All-nil P))
 
-contains_none : {X : Type 0} (x : X) → Contains [] x → ⊥
-contains_none x c = omega (arith, c.1)
+  pub made : IsFirst x → Completes (space_of (entries_of x)) (partial_of x.config) full → KeepsMean (space_of (entries_of x)) (partial_of x.config) x.instruction shown → SettledBody (space_of (entries_of x)) (partial_of x.config) shown → IsManual x (manual_with x full shown)
+  made first complete keeps settled = record { covers = made_covers x full shown first complete; faithful = made_faithful keeps; settled = made_settled settled }
 
-whole_settled : (space : Space) (part : Partial) (xs : List Stmt) → All IsStatement xs → SettledBody space part xs
-whole_settled space part xs h = record {
-  parameters = λ k d l named one. contains_none (slice_index_or space.params k d).name (subst (λ (ws : List (List ℕ)). Contains ws (slice_index_or space.params k d).name) (no_words xs h) named);
-  tests = subst (λ (ps : List Place). All (IsOpen space part) ps) (sym (no_places space xs h [])) (All-nil (IsOpen space part));
-  literals = subst (λ (ps : List Place). All NoLiteral ps) (sym (no_places space xs h [])) (All-nil NoLiteral);
-}
+-- ---- results
 
-pub made_settled : (x : FirstBundle) → IsFirst x → Settled (space_of (entries_of x)) (partial_of x.config) (made_manual x)
-made_settled x h =
-    let P : Part → Type 0 = λ p. SettledShown (space_of (entries_of x)) (partial_of x.config) p.shown in
-    All-append P (map (param_part (first_completion x.params)) x.params) (instruction_part (first_completion x.params) x.instruction ∷ [])
-    (All-map P (param_part (first_completion x.params)) x.params (λ k d l. tt))
-    (All-cons P (instruction_part (first_completion x.params) x.instruction) []
-    (whole_settled (space_of (entries_of x)) (partial_of x.config) x.instruction.operation.statements h.instruction.statements)
-    (All-nil P))
+pub result_made : {E : Type 0} (x : FirstBundle) (full : Full) (shown : List Stmt) → (IsFirst x → Completes (space_of (entries_of x)) (partial_of x.config) full) → (IsFirst x → KeepsMean (space_of (entries_of x)) (partial_of x.config) x.instruction shown) → (IsFirst x → SettledBody (space_of (entries_of x)) (partial_of x.config) shown) → (r : Result Manual E) → IfOk r (λ manual. manual ≡ manual_with x full shown) → IfOk r (λ manual. IsFirst x → IsManual x manual)
+result_made x full shown complete keeps settled (Ok manual) e = λ h. subst (IsManual x) (sym e) (made x full shown h (complete h) (keeps h) (settled h))
+result_made x full shown complete keeps settled (Err f) e = tt
 
--- the text of the manual that is made
-pub made_shows : (input config text : List ℕ) (x : FirstBundle) → Spells input x → x.config.name ≡ config → text ≡ manual_text (space_of (entries_of x)) (made_manual x) → ShowsManual input config text
-made_shows input config text x s e t = record {
-  bundle = x;
-  spelled = s;
-  named = e;
-  manual = made_manual x;
-  covers = subst (λ (name : List ℕ). Covers (entries_of x) name (partial_of x.config) (made_manual x)) e (made_covers x s.first);
-  faithful = made_faithful x s.first;
-  settled = made_settled x s.first;
-  printed = t;
-}
+pub result_text : {E : Type 0} (x : FirstBundle) (space : Space) (manual : Manual) → space ≡ space_of (entries_of x) → (IsFirst x → IsManual x manual) → (r : Result (List ℕ) E) → IfOk r (λ text. text ≡ manual_text space manual) → IfOk r (λ text. IsFirst x → IsManualText x text)
+result_text x space manual s is (Ok text) e = λ h. record { manual = manual; is = is h; printed = e ∙ ap (λ (y : Space). manual_text y manual) s }
+result_text x space manual s is (Err f) e = tt
+
+pub result_shows : {E : Type 0} (input config : List ℕ) (x : FirstBundle) → Spells input x → (r : Result (List ℕ) E) → IfOk r (λ text. (x.config.name ≡ config) × (IsFirst x → IsManualText x text)) → IfOk r (ShowsManual input config)
+result_shows input config x s (Ok text) h = record { bundle = x; spelled = s; named = h.0; shows = h.1 s.first }
+result_shows input config x s (Err f) h = tt

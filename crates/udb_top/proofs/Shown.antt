@@ -9,17 +9,21 @@ use Rattle.udb_base.specs.declared.spaces.Domain.{Domain}
 use Rattle.udb_base.specs.declared.spaces.Domain.TheVariants.{Flags, Numbers, Range, Words}
 use Rattle.udb_base.specs.declared.spaces.Full.{Full}
 use Rattle.udb_base.specs.declared.spaces.Space.{Space}
+use Rattle.udb_base.specs.declared.conditions.Cond.{Cond}
+use Rattle.udb_base.specs.declared.conditions.Cond.TheVariants.{Always}
 use Rattle.udb_spec.specs.Conditions.{holds}
+use Rattle.udb_spec.specs.CondLaws.{holds-Always}
 use Rattle.udb_spec.specs.Spaces.{Completes, mxlen}
 use Rattle.udb_base.specs.declared.refutations.Partial.{Partial}
 use Rattle.idl_tree.specs.declared.programs.Base.TheVariants.{All as EachBase}
 use Rattle.idl_tree.specs.declared.programs.Variable.{Variable}
+use Rattle.idl_tree.specs.declared.statements.Stmt.{Stmt}
 use Rattle.entry_tree.specs.declared.ParamEntry.{ParamEntry}
 use Rattle.entry_tree.specs.declared.Encoding.{Encoding}
 use Rattle.entry_tree.specs.declared.InstructionEntry.{InstructionEntry}
-use Rattle.first_bundle.specs.declared.bundle.FirstBundle.{FirstBundle}
-use Rattle.first_bundle.specs.Alphabets.{is_text, is_spaced, begins, is_upper, is_letter_or_digit}
-use Rattle.first_bundle.specs.Bundle.{IsSwitch, IsParam, IsInstruction, IsFirst, digits_among}
+use Rattle.first_spec.specs.declared.bundle.FirstBundle.{FirstBundle}
+use Rattle.first_spec.specs.Alphabets.{is_text, is_spaced, begins, is_upper, is_letter_or_digit}
+use Rattle.first_spec.specs.Bundle.{IsSwitch, IsParam, IsInstruction, IsFirst, digits_among}
 use Rattle.manual_spec.specs.declared.manuals.PartText.{PartText}
 use Rattle.manual_spec.specs.declared.manuals.Part.{Part}
 use Rattle.manual_spec.specs.declared.manuals.Manual.{Manual}
@@ -27,9 +31,13 @@ use Rattle.manual_spec.specs.Text.{lines_of, onto_first}
 use Rattle.manual_spec.specs.Entries.{Entries, space_of, HasExtension, HasParam, HasInstruction, fits_base, base_or_any}
 use Rattle.manual_spec.specs.Covers.{Shows, none, shown, IsText, HasCompletion, IsParamPart, IsInstructionPart, ShowsEntries, Covers, HasRow, match_row, variable_row, domain_lines}
 use Rattle.first_bundle.proofs.Clean.{is_clean, clean, left_so, right_so}
-use Rattle.first_bundle.proofs.Words.{clean_text}
-use Rattle.udb_top.specs.Making.{entries_of, partial_of, first_completion, one_line_each, value_rows, param_part, instruction_part, made_parts, made_manual}
-use Rattle.udb_top.proofs.Completed.{always_holds, first_completes}
+use Rattle.first_bundle.proofs.Names.{clean_text}
+use Rattle.first_prune.specs.Known.{entries_of, partial_of}
+use Rattle.udb_top.specs.Making.{one_line_each, value_rows, param_part, instruction_part, manual_with}
+
+-- what is Always holds
+always_holds : (space : Space) (full : Full) (c : Cond) → c ≡ Always → holds space full c ≡ true
+always_holds space full c e = ap (holds space full) e ∙ holds-Always space full
 
 no_feed : (b : ℕ) (t : Bool) → (b == 10) ≡ t → (nat_lt b 128 && not (b == 10)) ≡ true → (b == 10) ≡ false
 no_feed b true e h = absurd (at_feed (nat_lt b 128) (b == 10) e h)
@@ -83,8 +91,8 @@ module _ (space : Space) (part : Partial) (full : Full) (complete : Completes sp
       shown full complete (always_holds space full p.defined (All-head IsParam p ps h).defined)
       (param_shown p (All-head IsParam p ps h)) (params_shown ps (All-tail IsParam p ps h))
 
-  pub has_instruction : (x : InstructionEntry) → IsInstruction x → HasInstruction space full x
-  has_instruction x h = record {
+  pub has_instruction : (ps : List ParamEntry) (x : InstructionEntry) → IsInstruction ps x → HasInstruction space full x
+  has_instruction ps x h = record {
     defined = always_holds space full x.defined h.defined;
     base = ap (λ o. base_or_any o (mxlen space full)) h.base;
     encoding = ap (λ es. list_any (λ e. fits_base e.base (mxlen space full)) es) h.encodings;
@@ -98,25 +106,23 @@ module _ (space : Space) (part : Partial) (full : Full) (complete : Completes sp
   no_variables : (x : InstructionEntry) (vs : List Variable) → vs ≡ [] → Shows (Completes space part) (λ full e. HasRow space x e.base full) (λ e row. row ≡ variable_row e) vs []
   no_variables x vs e = subst (λ (vs : List Variable). Shows (Completes space part) (λ full e. HasRow space x e.base full) (λ e row. row ≡ variable_row e) vs []) (sym e) none
 
-  pub instruction_shown : (x : InstructionEntry) → IsInstruction x → IsInstructionPart space part x (instruction_part full x)
-  instruction_shown x h = record {
+  pub instruction_shown : (ps : List ParamEntry) (x : InstructionEntry) (statements : List Stmt) → IsInstruction ps x → IsInstructionPart space part x (instruction_part full x statements)
+  instruction_shown ps x statements h = record {
     name = refl;
     text = subst (λ (a : List ℕ). IsText x.long_name x.description a (one_line_each x.long_name x.description)) (sym h.assembly) (is_one_text x.long_name x.description h.long_name h.description);
-    completion = record { completes = complete; has = has_instruction x h };
+    completion = record { completes = complete; has = has_instruction ps x h };
     matches = (codes "all | " ++ digits_among x.encodings) ∷ [];
-    match_rows = row_shown x (has_instruction x h) x.encodings h.digits h.encodings;
+    match_rows = row_shown x (has_instruction ps x h) x.encodings h.digits h.encodings;
     variables = [];
     variable_rows = no_variables x x.operation.variables h.variables;
-    body = x.operation;
+    body = record { variables = []; statements = statements };
     table = refl;
   }
 
 -- the manual that is made shows exactly the entries that some completion has
-pub made_covers : (x : FirstBundle) → IsFirst x → Covers (entries_of x) x.config.name (partial_of x.config) (made_manual x)
-made_covers x h =
+pub made_covers : (x : FirstBundle) (full : Full) (statements : List Stmt) → IsFirst x → Completes (space_of (entries_of x)) (partial_of x.config) full → Covers (entries_of x) x.config.name (partial_of x.config) (manual_with x full statements)
+made_covers x full statements h complete =
     let space : Space = space_of (entries_of x) in
-    let full : Full = first_completion x.params in
-    let complete : Completes space (partial_of x.config) full = first_completes x h in
     record {
       name = refl;
       completion = complete;
@@ -125,8 +131,8 @@ made_covers x h =
         shows_extensions = none;
         params = map (param_part full) x.params;
         shows_params = params_shown space (partial_of x.config) full complete x.params h.params;
-        instructions = instruction_part full x.instruction ∷ [];
-        shows_instructions = shown full complete (has_instruction space (partial_of x.config) full complete x.instruction h.instruction) (instruction_shown space (partial_of x.config) full complete x.instruction h.instruction) none;
+        instructions = instruction_part full x.instruction statements ∷ [];
+        shows_instructions = shown full complete (has_instruction space (partial_of x.config) full complete x.params x.instruction h.instruction) (instruction_shown space (partial_of x.config) full complete x.params x.instruction statements h.instruction) none;
         in_order = refl;
       };
     }

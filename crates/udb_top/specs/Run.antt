@@ -1,19 +1,13 @@
 -- What the program answers, writes and reads.
-use Rattle.std.specs.Prelude.{◌≡◌, ◌≢◌, ◌≤◌, ◌<◌, ◌⊎◌, ◌++◌, ◌==◌, Bool, true, false, ℕ, List, [], ◌∷◌, map, take, length, codes, Option, None, Some, IfSome, string_bytes, if◌then◌else◌}
+use Rattle.std.specs.Prelude.{◌≡◌, ◌≢◌, ◌≤◌, ◌<◌, ◌+◌, ◌⊎◌, ◌++◌, ◌==◌, Bool, true, false, ℕ, List, [], ◌∷◌, map, take, length, codes, Option, None, Some, IfSome, string_bytes, if◌then◌else◌}
 use Rattle.std.specs.declared.string.String.{String}
 use Rattle.udb_base.specs.Names.{IsName}
 use Rattle.udb_base.specs.Faults.{Rose}
-use Rattle.first_bundle.specs.declared.bundle.FirstBundle.{FirstBundle}
-use Rattle.first_bundle.specs.Bundle.{Spells}
-use Rattle.manual_spec.specs.declared.manuals.Manual.{Manual}
-use Rattle.manual_spec.specs.Entries.{space_of}
-use Rattle.manual_spec.specs.Text.{manual_text}
-use Rattle.manual_spec.specs.Covers.{Covers}
-use Rattle.manual_spec.specs.Faithful.{Faithful}
-use Rattle.manual_spec.specs.Settled.{Settled}
+use Rattle.first_spec.specs.declared.bundle.FirstBundle.{FirstBundle}
+use Rattle.first_spec.specs.Bundle.{Spells}
 use Rattle.udb_top.specs.declared.running.Refusal.{Refusal}
 use Rattle.udb_top.specs.declared.running.Refusal.TheVariants as refusal
-use Rattle.udb_top.specs.Making.{entries_of, partial_of}
+use Rattle.udb_top.specs.Making.{IsManualText}
 
 -- the most bytes of input
 abbrev pub input_limit : ℕ
@@ -41,38 +35,49 @@ IsOtherCommand words = (word : List ℕ) → words ≢ codes "manual" ∷ word �
 abbrev pub IsNoCommand : List (List ℕ) → Type 0
 IsNoCommand words = (config : List ℕ) → IsManualCommand words config → ⊥
 
--- the text is that of a manual of the named configuration which shows exactly what some completion
--- has, pruned as far as the configuration settles, with the full outcomes
+-- the input is a bundle of the first path, and the text is that of a manual of its configuration
+-- which has the asked name
 pub record ShowsManual (input config text : List ℕ) : Type 0 where
   pub bundle : FirstBundle
   pub spelled : Spells input bundle
   pub named : bundle.config.name ≡ config
-  pub manual : Manual
-  pub covers : Covers (entries_of bundle) config (partial_of bundle.config) manual
-  pub faithful : Faithful (entries_of bundle) (partial_of bundle.config) manual
-  pub settled : Settled (space_of (entries_of bundle)) (partial_of bundle.config) manual
-  pub printed : text ≡ manual_text (space_of (entries_of bundle)) manual
+  pub shows : IsManualText bundle text
 
--- the input is no bundle of the first path with a configuration of that name
-abbrev pub NotBuilt : List ℕ → List ℕ → Type 0
-NotBuilt input config = (bundle : FirstBundle) → Spells input bundle → bundle.config.name ≡ config → ⊥
+-- the input is no bundle of the first path
+abbrev pub NotBuilt : List ℕ → Type 0
+NotBuilt input = (bundle : FirstBundle) → Spells input bundle → ⊥
 
--- the input is longer than the limit, or not built
-abbrev pub IsRefused : List ℕ → List ℕ → Type 0
-IsRefused input config = (input_limit < length input) ⊎ NotBuilt input config
+-- the input is a bundle of the first path whose configuration has another name
+pub record NoSuchConfig (input config : List ℕ) : Type 0 where
+  pub bundle : FirstBundle
+  pub spelled : Spells input bundle
+  pub other : bundle.config.name ≢ config
+
+-- more bytes than the limit were taken of the input
+abbrev pub TookTooMany : List ℕ → Option (List ℕ) → Type 0
+TookTooMany input left = (rest : List ℕ) × ((left ≡ Some rest) × (input_limit + length rest < length input))
+
+-- the name of the configuration among the words
+abbrev pub asked_config : List (List ℕ) → List ℕ
+asked_config (command ∷ config ∷ []) = config
+asked_config _ = []
 
 -- the text of a status on the output for errors
-abbrev pub status_text : ℕ → List ℕ
-status_text n =
+abbrev pub status_text : List ℕ → ℕ → List ℕ
+status_text config n =
     if n == 2 then codes "not a command\n"
     else (if n == 3 then codes "read failed\n"
     else (if n == 7 then codes "out of memory\n"
-    else (if n == 12 then codes "not built\n" else [])))
+    else (if n == 8 then codes "input too long\n"
+    else (if n == 9 then codes "no such config " ++ (config ++ codes "\n")
+    else (if n == 12 then codes "not built\n" else [])))))
 
 -- the status of a refusal
 abbrev pub refusal_status : Refusal → ℕ
 refusal_status refusal.Memory = 7
 refusal_status refusal.Read = 3
+refusal_status refusal.TooLong = 8
+refusal_status refusal.NoSuchConfig = 9
 refusal_status refusal.NotBuilt = 12
 
 -- the statuses of the command `manual`
@@ -81,9 +86,12 @@ pub data IsShowStatus : ℕ → Type 0 where
   read_failed : IsShowStatus 3
   write_failed : IsShowStatus 4
   memory : IsShowStatus 7
+  too_long : IsShowStatus 8
+  no_config : IsShowStatus 9
   not_built : IsShowStatus 12
 
--- 0 done, 2 no command, 3 a failed read, 4 a failed write, 7 want of memory, 12 not built
+-- 0 done, 2 no command, 3 a failed read, 4 a failed write, 7 want of memory, 8 an input past the
+-- limit, 9 no such configuration, 12 not built
 abbrev pub IsStatus : ℕ → Type 0
 IsStatus n = (n ≡ 2) ⊎ IsShowStatus n
 
@@ -100,10 +108,13 @@ pub data IsFront (config input before : List ℕ) (written : Option (List ℕ)) 
   nothing : written ≡ Some before → IsFront config input before written
   front : (text : List ℕ) (n : ℕ) → ShowsManual input config text → written ≡ Some (before ++ take n text) → IsFront config input before written
 
--- with no rise of a count a command is answered by 0 exactly where its input isn't refused, unless memory runs out
+-- with no rise of a count the command is answered by the status whose cause holds, unless memory
+-- runs out
 pub record IsComplete (input config : List ℕ) (status : ℕ) : Type 0 where
-  pub refused : IsRefused input config → (status ≡ 12) ⊎ (status ≡ 7)
-  pub taken : (IsRefused input config → ⊥) → (status ≡ 0) ⊎ (status ≡ 7)
+  pub long : input_limit < length input → (status ≡ 8) ⊎ (status ≡ 7)
+  pub unbuilt : length input ≤ input_limit → NotBuilt input → (status ≡ 12) ⊎ (status ≡ 7)
+  pub unnamed : length input ≤ input_limit → NoSuchConfig input config → (status ≡ 9) ⊎ (status ≡ 7)
+  pub shown : length input ≤ input_limit → (bundle : FirstBundle) → Spells input bundle → bundle.config.name ≡ config → (status ≡ 0) ⊎ (status ≡ 7)
 
 -- the words are the command, and its success stands
 pub record ShowsAll (words : List (List ℕ)) (input : List ℕ) (left : Option (List ℕ)) (before : List ℕ) (written : Option (List ℕ)) : Type 0 where
@@ -111,11 +122,12 @@ pub record ShowsAll (words : List (List ℕ)) (input : List ℕ) (left : Option 
   pub command : IsManualCommand words config
   pub shown : IsDone config input left before written
 
--- the words are the command, and its input is refused
-pub record IsRefusedCommand (words : List (List ℕ)) (input : List ℕ) : Type 0 where
+-- the words are the command, and of its input this holds, which is within the limit
+pub record IsCommandOn (Holds : List ℕ → List ℕ → Type 0) (words : List (List ℕ)) (input : List ℕ) : Type 0 where
   pub config : List ℕ
   pub command : IsManualCommand words config
-  pub refused : IsRefused input config
+  pub within : length input ≤ input_limit
+  pub holds : Holds input config
 
 -- nothing was received, or the words are the command and a front of its success
 pub data ShowsFront (words : List (List ℕ)) (input before : List ℕ) (written : Option (List ℕ)) : Type 0 where

@@ -1,8 +1,8 @@
 //! The input, read to its end or past its limit.
 
-ghost use Rattle.std.specs.Prelude.{◌≡◌, ◌≤◌, ◌<◌, [], List, ℕ, Some, IfOk, OnErr, OnOk, length};
+ghost use Rattle.std.specs.Prelude.{◌≡◌, ◌≢◌, ◌≤◌, ◌<◌, [], List, ℕ, Some, IfOk, OnErr, OnOk, length};
 ghost use Rattle.udb_base.specs.Faults.{Rose};
-ghost use Rattle.udb_top.specs.Run.{input_limit};
+ghost use Rattle.udb_top.specs.Run.{input_limit, TookTooMany};
 
 use std::alloc::Global;
 use udb_base::Source;
@@ -24,7 +24,8 @@ pub fn read_input<S: Source>(alloc: Global, input: &mut S) -> Result<Vec<u8>, In
     ensures failed { result ≡ Err InputFault.Read → Rose (S.faults input.old) (S.faults input.new) }
     ensures whole { (xs : List ℕ) → S.left input.old ≡ Some xs → IfOk result (λ bytes. (bytes.items ≡ xs) × (S.left input.new ≡ Some [])) }
     ensures within { IfOk result (λ bytes. length bytes.items ≤ input_limit) }
-    ensures too_long { (xs : List ℕ) → S.left input.old ≡ Some xs → result ≡ Err InputFault.TooLong → input_limit < length xs }
+    ensures too_long { (xs : List ℕ) → S.left input.old ≡ Some xs → result ≡ Err InputFault.TooLong → TookTooMany xs (S.left input.new) }
+    ensures few { (xs : List ℕ) → S.left input.old ≡ Some xs → result ≢ Err InputFault.TooLong → result ≢ Err InputFault.Memory → TookTooMany xs (S.left input.new) → ⊥ }
 {
     let mut bytes = Vec::new(alloc);
     let mut buffer = [0; 4096];

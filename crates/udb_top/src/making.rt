@@ -1,42 +1,16 @@
 //! The manual of a bundle of the first path.
 
 ghost use Rattle.std.specs.Prelude.{◌≡◌, ◌++◌, ◌∷◌, [], IfOk, OnOk, map, codes};
-ghost use Rattle.first_bundle.specs.Bundle.{digits_among};
-ghost use Rattle.udb_top.specs.Making.{first_of, first_completion, one_line_each, value_rows, param_part, instruction_part, made_parts, made_manual};
+ghost use Rattle.first_spec.specs.Bundle.{IsFirst, digits_among};
+ghost use Rattle.udb_top.specs.Making.{one_line_each, value_rows, param_part, instruction_part, manual_with, IsManual};
 
 use entry_tree::{Encoding, InstructionEntry, ParamEntry};
-use first_bundle::FirstBundle;
-use idl_tree::{Body, Lines, copy_statements};
+use first_bundle::{FirstBundle, match_digits};
+use first_prune::{complete_bundle, prune_bundle};
+use idl_tree::{Body, Lines, Stmts};
 use manual_spec::{Manual, Part, PartText, Parts, Shown};
 use std::alloc::Global;
-use udb_base::{Chars, Copied, Domain, Full, Many, NoMemory, Value};
-
-fn first_value(domain: &Domain) -> Value
-    ensures { result ≡ first_of domain.now }
-{
-    match domain {
-        Domain::Flags => Value::Flag(false),
-        Domain::Numbers(_numbers) => Value::Number(32),
-        Domain::Range {
-            low: _low,
-            high: _high,
-        } => Value::Number(32),
-        Domain::Words(_words) => Value::Number(32),
-    }
-}
-
-fn completion(alloc: Global, params: &[ParamEntry]) -> Result<Full, NoMemory>
-    ensures { IfOk result (λ full. full ≡ first_completion params.now) }
-{
-    let mut values = Many::new(alloc);
-    for param in params {
-        values.push(first_value(&param.domain))?;
-    }
-    Ok(Full {
-        extensions: Many::new(alloc),
-        params: values,
-    })
-}
+use udb_base::{Chars, Copied, Domain, Full, Many, NoMemory};
 
 fn one_line(alloc: Global, text: &str) -> Result<Lines, NoMemory>
     ensures { IfOk result (λ lines. lines ≡ text.now ∷ []) }
@@ -92,34 +66,31 @@ fn part_of_param(alloc: Global, full: &Full, param: &ParamEntry) -> Result<Part,
     })
 }
 
-fn digits(encodings: &[Encoding]) -> &str
-    ensures { result.now ≡ digits_among encodings.now }
-{
-    match encodings {
-        [] => "",
-        [first, ..] => first.digits.as_str(),
-    }
-}
-
 fn match_rows(alloc: Global, encodings: &[Encoding]) -> Result<Lines, NoMemory>
     ensures { IfOk result (λ lines. lines ≡ (codes "all | " ++ digits_among encodings.now) ∷ []) }
 {
     let mut row = Chars::of(alloc, "all | ")?;
-    row.push_str(digits(encodings))?;
+    row.push_str(match_digits(encodings))?;
     let mut lines = Many::new(alloc);
     lines.push(row)?;
     Ok(lines)
 }
 
-fn shown_instruction(alloc: Global, instruction: &InstructionEntry) -> Result<Shown, NoMemory>
-    ensures { IfOk result (λ shown. shown ≡ Shown.Instruction ((codes "all | " ++ digits_among instruction.now.encodings) ∷ []) [] instruction.now.operation) }
+fn shown_instruction(
+    alloc: Global,
+    instruction: &InstructionEntry,
+    statements: Stmts,
+) -> Result<Shown, NoMemory>
+    ensures { IfOk result (λ shown. shown ≡ Shown.Instruction ((codes "all | " ++ digits_among instruction.now.encodings) ∷ []) [] (record { variables = []; statements = statements })) }
 {
     let matches = match_rows(alloc, instruction.encodings.as_slice())?;
-    let body = instruction.operation.copy(alloc)?;
     Ok(Shown::Instruction {
         matches,
         variables: Many::new(alloc),
-        body,
+        body: Body {
+            variables: Many::new(alloc),
+            statements,
+        },
     })
 }
 
@@ -127,10 +98,11 @@ fn part_of_instruction(
     alloc: Global,
     full: &Full,
     instruction: &InstructionEntry,
+    statements: Stmts,
 ) -> Result<Part, NoMemory>
-    ensures { IfOk result (λ part. part ≡ instruction_part full.now instruction.now) }
+    ensures { IfOk result (λ part. part ≡ instruction_part full.now instruction.now statements) }
 {
-    let shown = shown_instruction(alloc, instruction)?;
+    let shown = shown_instruction(alloc, instruction, statements)?;
     Ok(Part {
         name: instruction.name.copy(alloc)?,
         completion: full.copy(alloc)?,
@@ -149,24 +121,41 @@ fn parts_of_params(alloc: Global, full: &Full, params: &[ParamEntry]) -> Result<
     Ok(parts)
 }
 
-fn all_parts(alloc: Global, full: &Full, bundle: &FirstBundle) -> Result<Parts, NoMemory>
-    ensures { IfOk result (λ parts. parts ≡ made_parts full.now bundle.now) }
+fn all_parts(
+    alloc: Global,
+    full: &Full,
+    bundle: &FirstBundle,
+    statements: Stmts,
+) -> Result<Parts, NoMemory>
+    ensures { IfOk result (λ parts. parts ≡ (manual_with bundle.now full.now statements).parts) }
 {
-    let instruction = part_of_instruction(alloc, full, &bundle.instruction)?;
+    let instruction = part_of_instruction(alloc, full, &bundle.instruction, statements)?;
     let mut parts = parts_of_params(alloc, full, bundle.params.as_slice())?;
     parts.push(instruction)?;
     Ok(parts)
 }
 
-/// The manual of the bundle's configuration.
-pub fn make_manual(alloc: Global, bundle: &FirstBundle) -> Result<Manual, NoMemory>
-    ensures { IfOk result (λ manual. manual ≡ made_manual bundle.now) }
+fn manual_with(
+    alloc: Global,
+    bundle: &FirstBundle,
+    full: Full,
+    statements: Stmts,
+) -> Result<Manual, NoMemory>
+    ensures { IfOk result (λ manual. manual ≡ manual_with bundle.now full statements) }
 {
-    let full = completion(alloc, bundle.params.as_slice())?;
-    let parts = all_parts(alloc, &full, bundle)?;
+    let parts = all_parts(alloc, &full, bundle, statements)?;
     Ok(Manual {
         config: bundle.config.name.copy(alloc)?,
         completion: full,
         parts,
     })
+}
+
+/// The manual of the bundle's configuration.
+pub fn make_manual(alloc: Global, bundle: &FirstBundle) -> Result<Manual, NoMemory>
+    ensures { IfOk result (λ manual. IsFirst bundle.now → IsManual bundle.now manual) }
+{
+    let full = complete_bundle(alloc, bundle)?;
+    let statements = prune_bundle(alloc, bundle)?;
+    manual_with(alloc, bundle, full, statements)
 }

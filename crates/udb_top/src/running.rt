@@ -1,11 +1,10 @@
 //! Commands, their statuses and the texts of these.
 
-ghost use Rattle.std.specs.Prelude.{◌≡◌, ◌≢◌, ◌≤◌, ◌⊎◌, ◌++◌, ◌↔◌, ◌∷◌, List, [], ℕ, Some, IsTrue, IfOk, OnErr, MatchOption, length, take, codes};
+ghost use Rattle.std.specs.Prelude.{◌≡◌, ◌≢◌, ◌≤◌, ◌⊎◌, ◌++◌, ◌↔◌, ◌∷◌, List, [], ℕ, true, false, Some, IsTrue, IfOk, OnErr, MatchOption, length, take, codes};
 ghost use Rattle.udb_base.specs.Faults.{Rose};
-ghost use Rattle.manual_spec.specs.Entries.{space_of};
-ghost use Rattle.manual_spec.specs.Text.{manual_text};
-ghost use Rattle.udb_top.specs.Making.{entries_of, made_manual};
-ghost use Rattle.udb_top.specs.Run.{input_limit, words_of, IsOtherCommand, IsNameWord, IsManualCommand, IsNoCommand, ShowsManual, NotBuilt, IsRefused, IsDone, IsFront, IsShowStatus, IsStatus, ShowsAll, ShowsFront, IsRefusedCommand, NoRise, IsComplete, status_text, refusal_status};
+ghost use Rattle.first_spec.specs.Bundle.{IsFirst};
+ghost use Rattle.udb_top.specs.Making.{IsManualText};
+ghost use Rattle.udb_top.specs.Run.{input_limit, words_of, IsOtherCommand, IsNameWord, IsManualCommand, IsNoCommand, ShowsManual, NotBuilt, NoSuchConfig, TookTooMany, IsDone, IsFront, IsShowStatus, IsStatus, ShowsAll, ShowsFront, IsCommandOn, NoRise, IsComplete, asked_config, status_text, refusal_status};
 
 use crate::input::{InputFault, read_input};
 use crate::making::make_manual;
@@ -25,6 +24,10 @@ const WRITE_FAILED: u8 = 4;
 
 const OUT_OF_MEMORY: u8 = 7;
 
+const INPUT_TOO_LONG: u8 = 8;
+
+const NO_SUCH_CONFIG: u8 = 9;
+
 const NOT_BUILT: u8 = 12;
 
 /// Why no manual is shown.
@@ -32,6 +35,8 @@ const NOT_BUILT: u8 = 12;
 enum Refusal {
     Memory,
     Read,
+    TooLong,
+    NoSuchConfig,
     NotBuilt,
 }
 
@@ -83,35 +88,43 @@ fn manual_config(alloc: Global, words: &[String]) -> Result<Option<&str>, NoMemo
     }
 }
 
-// The text of the manual that the input's bundle has for the named configuration.
-fn manual_of_bytes(alloc: Global, config: &str, bytes: &[u8]) -> Result<Chars, Refusal>
-    ensures text { IfOk result (ShowsManual bytes.now config.now) }
-    ensures not_built { result ≡ Err Refusal.NotBuilt → NotBuilt bytes.now config.now }
-    ensures never_read { result ≢ Err Refusal.Read }
-{
-    match read_first(alloc, bytes) {
-        Err(_) => Err(Refusal::Memory),
-        Ok(None) => Err(Refusal::NotBuilt),
-        Ok(Some(bundle)) => {
-            if bundle.config.name.as_str() == config {
-                match printed_manual(alloc, &bundle) {
-                    Ok(text) => Ok(text),
-                    Err(_) => Err(Refusal::Memory),
-                }
-            } else {
-                Err(Refusal::NotBuilt)
-            }
-        }
-    }
-}
-
 // The text of the manual of the bundle's configuration.
 fn printed_manual(alloc: Global, bundle: &FirstBundle) -> Result<Chars, NoMemory>
-    ensures { IfOk result (λ text. text ≡ manual_text (space_of (entries_of bundle.now)) (made_manual bundle.now)) }
+    ensures { IfOk result (λ text. IsFirst bundle.now → IsManualText bundle.now text) }
 {
     let space = space_of_bundle(alloc, bundle)?;
     let manual = make_manual(alloc, bundle)?;
     print_manual(alloc, &space, &manual)
+}
+
+// The text of the manual of a bundle whose configuration has the asked name.
+fn manual_of_bundle(alloc: Global, config: &str, bundle: &FirstBundle) -> Result<Chars, Refusal>
+    ensures text { IfOk result (λ text. (bundle.now.config.name ≡ config.now) × (IsFirst bundle.now → IsManualText bundle.now text)) }
+    ensures other { result ≡ Err Refusal.NoSuchConfig → bundle.now.config.name ≢ config.now }
+    ensures refusals { OnErr result ((result ≡ Err Refusal.NoSuchConfig) ⊎ (result ≡ Err Refusal.Memory)) }
+{
+    if bundle.config.name.as_str() != config {
+        return Err(Refusal::NoSuchConfig);
+    }
+    match printed_manual(alloc, bundle) {
+        Ok(text) => Ok(text),
+        Err(_) => Err(Refusal::Memory),
+    }
+}
+
+// The text of the manual that the input's bundle has for the named configuration.
+fn manual_of_bytes(alloc: Global, config: &str, bytes: &[u8]) -> Result<Chars, Refusal>
+    ensures text { IfOk result (ShowsManual bytes.now config.now) }
+    ensures no_config { result ≡ Err Refusal.NoSuchConfig → NoSuchConfig bytes.now config.now }
+    ensures not_built { result ≡ Err Refusal.NotBuilt → NotBuilt bytes.now }
+    ensures never_read { result ≢ Err Refusal.Read }
+    ensures never_long { result ≢ Err Refusal.TooLong }
+{
+    match read_first(alloc, bytes) {
+        Err(_) => Err(Refusal::Memory),
+        Ok(None) => Err(Refusal::NotBuilt),
+        Ok(Some(bundle)) => manual_of_bundle(alloc, config, &bundle),
+    }
 }
 
 // The text of the manual that the input has for the named configuration.
@@ -119,13 +132,16 @@ fn manual_of_input<S: Source>(alloc: Global, config: &str, input: &mut S) -> Res
     ensures later { S.faults input.old ≤ S.faults input.new }
     ensures read { result ≡ Err Refusal.Read → Rose (S.faults input.old) (S.faults input.new) }
     ensures text { (xs : List ℕ) → S.left input.old ≡ Some xs → IfOk result (λ text. (S.left input.new ≡ Some []) × (length xs ≤ input_limit) × ShowsManual xs config.now text) }
-    ensures not_built { (xs : List ℕ) → S.left input.old ≡ Some xs → result ≡ Err Refusal.NotBuilt → IsRefused xs config.now }
+    ensures too_long { (xs : List ℕ) → S.left input.old ≡ Some xs → result ≡ Err Refusal.TooLong → TookTooMany xs (S.left input.new) }
+    ensures few { (xs : List ℕ) → S.left input.old ≡ Some xs → result ≢ Err Refusal.TooLong → result ≢ Err Refusal.Memory → TookTooMany xs (S.left input.new) → ⊥ }
+    ensures no_config { (xs : List ℕ) → S.left input.old ≡ Some xs → result ≡ Err Refusal.NoSuchConfig → (length xs ≤ input_limit) × NoSuchConfig xs config.now }
+    ensures not_built { (xs : List ℕ) → S.left input.old ≡ Some xs → result ≡ Err Refusal.NotBuilt → (length xs ≤ input_limit) × NotBuilt xs }
 {
     match read_input(alloc, input) {
         Ok(bytes) => manual_of_bytes(alloc, config, bytes.as_slice()),
         Err(InputFault::Read) => Err(Refusal::Read),
         Err(InputFault::Memory) => Err(Refusal::Memory),
-        Err(InputFault::TooLong) => Err(Refusal::NotBuilt),
+        Err(InputFault::TooLong) => Err(Refusal::TooLong),
     }
 }
 
@@ -156,15 +172,47 @@ fn deliver<T: Sink>(out: &mut T, text: &[u8]) -> u8
     }
 }
 
-// The status of a refusal, with its text.
-fn status_of(refusal: Refusal) -> (u8, &'static str)
-    ensures status { result.0 ≡ refusal_status refusal }
-    ensures text { result.1.now ≡ status_text result.0 }
+// Writes a piece of a text; whether that was done.
+fn put<T: Sink>(err: &mut T, piece: &[u8]) -> bool
+    ensures failed { result ≡ false → Rose (T.faults err.old) (T.faults err.new) }
+    ensures later { T.faults err.old ≤ T.faults err.new }
+    ensures told { (es : List ℕ) → T.written err.old ≡ Some es → result ≡ true → T.written err.new ≡ Some (es ++ piece.now) }
+{
+    match err.write(piece) {
+        Ok(()) => true,
+        Err(_) => false,
+    }
+}
+
+// Writes that there is no such configuration.
+fn refuse_config<T: Sink>(err: &mut T, config: &str) -> u8
+    ensures status { (result ≡ 9) ⊎ (result ≡ 4) }
+    ensures failed { result ≢ 9 → Rose (T.faults err.old) (T.faults err.new) }
+    ensures later { T.faults err.old ≤ T.faults err.new }
+    ensures told { (es : List ℕ) → T.written err.old ≡ Some es → result ≡ 9 → T.written err.new ≡ Some (es ++ (codes "no such config " ++ (config.now ++ codes "\n"))) }
+{
+    if !put(err, b"no such config ") {
+        return WRITE_FAILED;
+    }
+    if !put(err, config.as_bytes()) {
+        return WRITE_FAILED;
+    }
+    refuse(err, NO_SUCH_CONFIG, "\n")
+}
+
+// Writes the text of a refusal; the answer is its status, unless a write fails.
+fn answer<T: Sink>(err: &mut T, config: &str, refusal: Refusal) -> u8
+    ensures status { (result ≡ refusal_status refusal) ⊎ (result ≡ 4) }
+    ensures failed { result ≢ refusal_status refusal → Rose (T.faults err.old) (T.faults err.new) }
+    ensures later { T.faults err.old ≤ T.faults err.new }
+    ensures told { (es : List ℕ) → T.written err.old ≡ Some es → result ≡ refusal_status refusal → T.written err.new ≡ Some (es ++ status_text config.now (refusal_status refusal)) }
 {
     match refusal {
-        Refusal::Read => (READ_FAILED, "read failed\n"),
-        Refusal::Memory => (OUT_OF_MEMORY, "out of memory\n"),
-        Refusal::NotBuilt => (NOT_BUILT, "not built\n"),
+        Refusal::Read => refuse(err, READ_FAILED, "read failed\n"),
+        Refusal::Memory => refuse(err, OUT_OF_MEMORY, "out of memory\n"),
+        Refusal::TooLong => refuse(err, INPUT_TOO_LONG, "input too long\n"),
+        Refusal::NoSuchConfig => refuse_config(err, config),
+        Refusal::NotBuilt => refuse(err, NOT_BUILT, "not built\n"),
     }
 }
 
@@ -183,25 +231,26 @@ fn show<S: Source, T: Sink>(
     ensures read { result ≡ 3 → Rose (S.faults input.old) (S.faults input.new) }
     ensures write { result ≡ 4 → Rose (T.faults out.old) (T.faults out.new) ⊎ Rose (T.faults err.old) (T.faults err.new) }
     ensures done { (xs os : List ℕ) → S.left input.old ≡ Some xs → T.written out.old ≡ Some os → result ≡ 0 → IsDone config.now xs (S.left input.new) os (T.written out.new) }
-    ensures taken { (xs : List ℕ) → S.left input.old ≡ Some xs → result ≡ 0 → IsRefused xs config.now → ⊥ }
-    ensures not_built { (xs : List ℕ) → S.left input.old ≡ Some xs → result ≡ 12 → IsRefused xs config.now }
-    ensures errors { (es : List ℕ) → T.written err.old ≡ Some es → result ≢ 4 → T.written err.new ≡ Some (es ++ status_text result) }
+    ensures shown { (xs : List ℕ) → S.left input.old ≡ Some xs → result ≡ 0 → (length xs ≤ input_limit) × ((text : List ℕ) × ShowsManual xs config.now text) }
+    ensures too_long { (xs : List ℕ) → S.left input.old ≡ Some xs → result ≡ 8 → TookTooMany xs (S.left input.new) }
+    ensures too_many { (xs : List ℕ) → S.left input.old ≡ Some xs → TookTooMany xs (S.left input.new) → (result ≡ 8) ⊎ ((result ≡ 7) ⊎ (result ≡ 4)) }
+    ensures no_config { (xs : List ℕ) → S.left input.old ≡ Some xs → result ≡ 9 → (length xs ≤ input_limit) × NoSuchConfig xs config.now }
+    ensures not_built { (xs : List ℕ) → S.left input.old ≡ Some xs → result ≡ 12 → (length xs ≤ input_limit) × NotBuilt xs }
+    ensures errors { (es : List ℕ) → T.written err.old ≡ Some es → result ≢ 4 → T.written err.new ≡ Some (es ++ status_text config.now result) }
     ensures silent { (os : List ℕ) → T.written out.old ≡ Some os → result ≢ 0 → result ≢ 4 → T.written out.new ≡ Some os }
     ensures front { (xs os : List ℕ) → S.left input.old ≡ Some xs → T.written out.old ≡ Some os → result ≡ 4 → IsFront config.now xs os (T.written out.new) }
 {
     match manual_of_input(alloc, config, input) {
         Ok(text) => deliver(out, text.as_bytes()),
-        Err(refusal) => {
-            let (status, text) = status_of(refusal);
-            refuse(err, status, text)
-        }
+        Err(refusal) => answer(err, config, refusal),
     }
 }
 
 /// Runs the command that the words are: `manual <config>` reads a bundle from `input`, prints the
 /// manual of its configuration on `out`, and otherwise the text of a status on `err`. The words are
 /// those after the program's name. The answer is the status: 0 done, 2 no command, 3 a failed read,
-/// 4 a failed write, 7 want of memory, 12 not built.
+/// 4 a failed write, 7 want of memory, 8 an input past its limit, 9 no such configuration, 12 not
+/// built.
 pub fn run<S: Source, T: Sink>(
     alloc: Global,
     words: &[String],
@@ -221,11 +270,14 @@ pub fn run<S: Source, T: Sink>(
 
     // What content tells: the manual that was shown, and the input that was refused.
     ensures done { (xs os : List ℕ) → S.left input.old ≡ Some xs → T.written out.old ≡ Some os → result ≡ 0 → ShowsAll (words_of words.now) xs (S.left input.new) os (T.written out.new) }
-    ensures not_built { (xs : List ℕ) → S.left input.old ≡ Some xs → result ≡ 12 → IsRefusedCommand (words_of words.now) xs }
+    ensures too_long { (xs : List ℕ) → S.left input.old ≡ Some xs → result ≡ 8 → TookTooMany xs (S.left input.new) }
+    ensures too_many { (xs : List ℕ) → S.left input.old ≡ Some xs → TookTooMany xs (S.left input.new) → (result ≡ 8) ⊎ ((result ≡ 7) ⊎ (result ≡ 4)) }
+    ensures no_config { (xs : List ℕ) → S.left input.old ≡ Some xs → result ≡ 9 → IsCommandOn NoSuchConfig (words_of words.now) xs }
+    ensures not_built { (xs : List ℕ) → S.left input.old ≡ Some xs → result ≡ 12 → IsCommandOn (λ input config. NotBuilt input) (words_of words.now) xs }
     ensures complete { (xs config : List ℕ) → S.left input.old ≡ Some xs → IsManualCommand (words_of words.now) config → NoRise (S.faults input.old) (S.faults input.new) → NoRise (T.faults out.old) (T.faults out.new) → NoRise (T.faults err.old) (T.faults err.new) → IsComplete xs config result }
 
     // What both outputs received.
-    ensures errors { (es : List ℕ) → T.written err.old ≡ Some es → result ≢ 4 → T.written err.new ≡ Some (es ++ status_text result) }
+    ensures errors { (es : List ℕ) → T.written err.old ≡ Some es → result ≢ 4 → T.written err.new ≡ Some (es ++ status_text (asked_config (words_of words.now)) result) }
     ensures silent { (os : List ℕ) → T.written out.old ≡ Some os → result ≢ 0 → result ≢ 4 → T.written out.new ≡ Some os }
     ensures front { (xs os : List ℕ) → S.left input.old ≡ Some xs → T.written out.old ≡ Some os → result ≡ 4 → ShowsFront (words_of words.now) xs os (T.written out.new) }
 {

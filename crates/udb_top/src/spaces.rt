@@ -2,7 +2,7 @@
 
 ghost use Rattle.std.specs.Prelude.{◌≡◌, IfOk, map};
 ghost use Rattle.manual_spec.specs.Entries.{param_space, space_of};
-ghost use Rattle.udb_top.specs.Making.{entries_of};
+ghost use Rattle.first_prune.specs.Known.{entries_of};
 
 use entry_tree::ParamEntry;
 use first_bundle::FirstBundle;
