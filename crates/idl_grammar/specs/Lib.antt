@@ -1,0 +1,10 @@
+pub mod Symbol
+pub mod Tables
+pub mod WidthGrammar
+pub mod ExprGrammar
+pub mod StmtGrammar
+pub mod StmtReader
+pub mod Outcome
+pub mod WidthReader
+pub mod ExprReader
+pub mod Faults
