@@ -1,2 +1,4 @@
+pub mod FunctionLemmas
 pub mod Margins
+pub mod NodeLaws
 pub mod Printed

@@ -63,7 +63,8 @@ fn quote_word(signed: bool) -> &'static str
     if signed { "'sd" } else { "'d" }
 }
 
-fn separator(place: usize) -> &'static str
+/// What stands before the part at a place of a list.
+pub fn separator(place: usize) -> &'static str
     ensures { result.now ≡ separator place }
 {
     if place == 0 { "" } else { ", " }

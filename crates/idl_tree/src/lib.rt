@@ -1,10 +1,12 @@
 //! The trees of the instruction description language: widths, expressions, statements, bodies,
-//! functions and CSRs, with copies, and the text of a body.
+//! functions and CSRs, with copies, and the text of bodies, of functions and of single nodes.
 #![tactic(auto)]
 
 mod expression_copies;
 mod expression_text;
 mod expressions;
+mod function_lines;
+mod nodes;
 mod program_copies;
 mod programs;
 mod statement_copies;
@@ -18,6 +20,8 @@ mod widths;
 
 pub use expression_copies::copy_expressions;
 pub use expressions::{Binary, Expr, Exprs, Unary};
+pub use function_lines::print_functions;
+pub use nodes::print_node;
 pub use programs::{
     Argument, Arguments, Base, BitPart, BitParts, Body, CsrBodies, CsrBody, FieldBodies, FieldKind,
     FieldPlaces, FieldType, Fields, Function, Functions, Length, Program, ResetValue, Variable,

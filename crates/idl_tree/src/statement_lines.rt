@@ -287,6 +287,45 @@ fn push_statements(
     Ok(())
 }
 
+/// Appends the lines of a body's statements, each after the margin.
+pub fn push_body(alloc: Global, out: &mut Lines, margin: &str, body: &Body) -> Result<(), NoMemory>
+    ensures { OnOk result (out.new ≡ out.old ++ margined margin.now (body_lines body.now)) }
+{
+    push_statements(alloc, out, margin, body.statements.as_slice())
+}
+
+/// The lines of a statement that is printed alone.
+#[tactic(auto, using(crate::proofs::Margins::margins))]
+pub fn statement_alone(alloc: Global, s: &Stmt) -> Result<Lines, NoMemory>
+    ensures { IfOk result (λ lines. lines ≡ stmt_lines s.now) }
+{
+    let mut lines = Many::new(alloc);
+    push_statement(alloc, &mut lines, "", s)?;
+    Ok(lines)
+}
+
+/// The line of a target that is printed alone.
+pub fn target_alone(alloc: Global, target: &Target) -> Result<Lines, NoMemory>
+    ensures { IfOk result (λ lines. lines ≡ target_text target.now ∷ []) }
+{
+    let mut line = Chars::new(alloc);
+    push_target(alloc, &mut line, target)?;
+    let mut lines = Many::new(alloc);
+    lines.push(line)?;
+    Ok(lines)
+}
+
+/// The line of an expression that is printed alone.
+pub fn expression_alone(alloc: Global, e: &Expr) -> Result<Lines, NoMemory>
+    ensures { IfOk result (λ lines. lines ≡ expr_text e.now ∷ []) }
+{
+    let mut line = Chars::new(alloc);
+    push_expression(alloc, &mut line, e)?;
+    let mut lines = Many::new(alloc);
+    lines.push(line)?;
+    Ok(lines)
+}
+
 /// The printed lines of a body's statements, two spaces a level.
 #[tactic(auto, using(crate::proofs::Margins::margins))]
 pub fn body_lines(alloc: Global, body: &Body) -> Result<Lines, NoMemory>

@@ -2,7 +2,7 @@ use crate::{
     Argument, Binary, BitPart, Body, Boxed, Chars, Cond, Copied, CsrBody, Expr, FieldBodies,
     FieldKind, FieldPlaces, FieldType, Fields, Function, Length, Lines, Many, Name, NoMemory,
     Program, ResetValue, Shape, Stmt, Stmts, Target, Unary, Width, body_lines, copy_expressions,
-    print_body,
+    print_body, print_functions, print_node,
 };
 use std::alloc::Global;
 use std::test::Fail;
@@ -126,14 +126,6 @@ fn a_body_prints_as_its_lines_with_two_spaces_a_level(rt: HostRuntime) -> Result
     Ok(())
 }
 
-#[test]
-fn a_text_has_its_lines_each_ended_by_a_line_feed(rt: HostRuntime) -> Result<(), Fail> {
-    let alloc = rt.alloc();
-    let expected = "if (A) {\n  if (!A) {\n    X[1] = 32'd1;\n  }\n  X[2] = X[1] + 32'd2;\n}\n";
-    assert!(rt; prints(alloc, nested(alloc)?, expected)?);
-    Ok(())
-}
-
 // X[1] = X[2] + (X[3] * 2);
 fn product(alloc: Global) -> Result<Boxed<Expr>, NoMemory> {
     let left = register(alloc, 3)?;
@@ -232,19 +224,84 @@ fn a_copy_is_made_with_ample_memory(rt: HostRuntime) -> Result<(), Fail> {
     Ok(())
 }
 
+fn argument(alloc: Global, name: &str) -> Result<Argument, NoMemory> {
+    Ok(Argument {
+        shape: Shape::Boolean,
+        name: Name::of(alloc, name)?,
+    })
+}
+
 fn function(alloc: Global) -> Result<Function, NoMemory> {
     let mut arguments = Many::new(alloc);
-    arguments.push(Argument {
-        shape: Shape::Boolean,
-        name: Name::of(alloc, "b")?,
-    })?;
+    arguments.push(argument(alloc, "b")?)?;
+    arguments.push(argument(alloc, "c")?)?;
     let name = Name::of(alloc, "f")?;
     Ok(Function {
         name,
         result: Some(Shape::Boolean),
         arguments,
+        body: body_of(alloc, only(alloc, Stmt::Return(Expr::Pc))?),
+    })
+}
+
+// A function without a result and without arguments.
+fn plain(alloc: Global) -> Result<Function, NoMemory> {
+    Ok(Function {
+        name: Name::of(alloc, "g")?,
+        result: None,
+        arguments: Many::new(alloc),
         body: body_of(alloc, Many::new(alloc)),
     })
+}
+
+#[test]
+fn functions_print_with_what_they_have(rt: HostRuntime) -> Result<(), Fail> {
+    let alloc = rt.alloc();
+    let mut all = Many::new(alloc);
+    all.push(function(alloc)?)?;
+    all.push(plain(alloc)?)?;
+    let text = print_functions(alloc, all.as_slice())?;
+    let first =
+        "function f {\n  returns Boolean\n  arguments Boolean b, Boolean c\n  body {\n    return $pc;\n  }\n}\n";
+    let second = "function g {\n  body {\n  }\n}\n";
+    assert!(rt; text.as_str().strip_prefix(first) == Some(second));
+    Ok(())
+}
+
+// X[2] = X[1][63:32];
+fn sliced(alloc: Global) -> Result<Body, NoMemory> {
+    let value = Expr::Slice {
+        of: register(alloc, 1)?,
+        high: Width::Number(63),
+        low: Width::Number(32),
+    };
+    Ok(body_of(alloc, only(alloc, set(2, value))?))
+}
+
+fn node_is(alloc: Global, body: &Body, node: u32, expected: &str) -> Result<bool, NoMemory> {
+    match print_node(alloc, body, node)? {
+        Some(lines) => Ok(are_lines(&lines, &[expected])),
+        None => Ok(expected.is_empty()),
+    }
+}
+
+#[test]
+fn nodes_are_numbered_from_the_outside_in(rt: HostRuntime) -> Result<(), Fail> {
+    let alloc = rt.alloc();
+    let body = sliced(alloc)?;
+    let table = [
+        (0, ""),
+        (1, "X[2] = X[1][63:32];"),
+        (2, "X[2]"),
+        (3, "2"),
+        (4, "X[1][63:32]"),
+        (6, "1"),
+        (7, ""),
+    ];
+    for (node, expected) in table {
+        assert!(rt; node_is(alloc, &body, node, expected)?, "{node}");
+    }
+    Ok(())
 }
 
 fn fields(alloc: Global) -> Result<Fields, NoMemory> {

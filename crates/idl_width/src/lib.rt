@@ -1,0 +1,9 @@
+//! The whole numbers of widths.
+#![tactic(auto)]
+
+mod numbers;
+mod scopes;
+mod values;
+
+pub use numbers::width_value;
+pub use scopes::{BitsOf, BitsScope};
