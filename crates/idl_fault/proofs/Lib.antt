@@ -1,0 +1,4 @@
+pub mod Levels
+pub mod Stacks
+pub mod Leading
+pub mod Ends
