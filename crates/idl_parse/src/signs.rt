@@ -1,0 +1,85 @@
+//! The signs of expressions.
+
+ghost use Rattle.std.specs.Prelude.{◌≡◌, option_map};
+ghost use Rattle.idl_grammar.specs.Outcome as o;
+ghost use Rattle.idl_grammar.specs.Tables as tables;
+ghost use Rattle.idl_seen.specs.Seen.{symbols};
+ghost use Rattle.idl_parse.specs.ExprPieces as piece;
+
+use crate::cursor::Cursor;
+use crate::exprs::Operator;
+use idl_seen::Seen;
+use idl_token::Sign;
+use idl_tree::{Binary, Unary};
+
+fn unary_of(sign: Sign) -> Option<Unary>
+    ensures { result ≡ tables.unary_of sign }
+{
+    match sign {
+        Sign::Not => Some(Unary::Not),
+        Sign::Tilde => Some(Unary::Invert),
+        Sign::Minus => Some(Unary::Minus),
+        _ => None,
+    }
+}
+
+/// The sign before an operand that comes next.
+pub fn unary_at(tokens: &Cursor<'_>) -> Option<Unary>
+    ensures { result ≡ piece.unary_at (o.head (symbols tokens.now.rest.now)) }
+{
+    match tokens.peek() {
+        Some(Seen::Sign(sign)) => unary_of(sign),
+        _ => None,
+    }
+}
+
+// How loosely a sign binds, products first, and its form.
+fn binding(sign: Sign) -> Option<(u8, Operator)>
+    ensures { piece.leveled result ≡ tables.binding sign }
+{
+    match sign {
+        Sign::Times => Some((0, Operator::Plain(Binary::Mul))),
+        Sign::WideTimes => Some((0, Operator::Plain(Binary::WideMul))),
+        Sign::Divide => Some((0, Operator::Plain(Binary::Div))),
+        Sign::Remainder => Some((0, Operator::Plain(Binary::Rem))),
+        Sign::Plus => Some((1, Operator::Plain(Binary::Add))),
+        Sign::Minus => Some((1, Operator::Plain(Binary::Sub))),
+        Sign::WidePlus => Some((1, Operator::Plain(Binary::WideAdd))),
+        Sign::WideMinus => Some((1, Operator::Plain(Binary::WideSub))),
+        Sign::Left => Some((2, Operator::Plain(Binary::Left))),
+        Sign::Right => Some((2, Operator::Plain(Binary::Right))),
+        Sign::RightSigned => Some((2, Operator::Plain(Binary::RightSigned))),
+        Sign::WideLeft => Some((2, Operator::Wide)),
+        Sign::Less => Some((3, Operator::Plain(Binary::Below))),
+        Sign::AtMost => Some((3, Operator::Plain(Binary::AtMost))),
+        Sign::Greater => Some((3, Operator::Plain(Binary::Above))),
+        Sign::AtLeast => Some((3, Operator::Plain(Binary::AtLeast))),
+        Sign::Equal => Some((4, Operator::Plain(Binary::Equal))),
+        Sign::NotEqual => Some((4, Operator::Plain(Binary::NotEqual))),
+        Sign::Ampersand => Some((5, Operator::Plain(Binary::BitAnd))),
+        Sign::Caret => Some((6, Operator::Plain(Binary::BitXor))),
+        Sign::Bar => Some((7, Operator::Plain(Binary::BitOr))),
+        Sign::And => Some((8, Operator::Plain(Binary::And))),
+        Sign::Or => Some((9, Operator::Plain(Binary::Or))),
+        _ => None,
+    }
+}
+
+fn at_level(sign: Sign, level: u8) -> Option<Operator>
+    ensures { option_map piece.operator_of result ≡ piece.at_level level (tables.binding sign) }
+{
+    match binding(sign) {
+        Some((found, operator)) => { if found == level { Some(operator) } else { None } }
+        None => None,
+    }
+}
+
+/// The sign of a level between two operands that comes next.
+pub fn operator_at(tokens: &Cursor<'_>, level: u8) -> Option<Operator>
+    ensures { option_map piece.operator_of result ≡ piece.operator_at level (o.head (symbols tokens.now.rest.now)) }
+{
+    match tokens.peek() {
+        Some(Seen::Sign(sign)) => at_level(sign, level),
+        _ => None,
+    }
+}
