@@ -1,0 +1,3 @@
+pub mod Trees
+pub mod Members
+pub mod Conds

@@ -1,0 +1,7 @@
+pub mod Keys
+pub mod Schemas
+pub mod Alphabets
+pub mod Entries
+pub mod Rules
+pub mod First
+pub mod Parts

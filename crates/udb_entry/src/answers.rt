@@ -1,0 +1,41 @@
+//! What is answered of a row.
+
+use entry_tree::{ConfigEntry, ExtensionEntry, ParamEntry};
+use idl_tree::Lines;
+use std::alloc::AllocError;
+
+/// An entry, read from the text of its row.
+#[derive(Drop)]
+pub enum Entry {
+    Extension(ExtensionEntry),
+    Param(ParamEntry),
+    Config(ConfigEntry),
+}
+
+/// A rule that an entry breaks, with the lines that show the breach. Rules are numbered as the
+/// documents of the repository number them.
+#[derive(Drop)]
+pub struct Breach {
+    pub rule: u8,
+    pub shows: Lines,
+}
+
+/// Why a row gives no entry.
+#[derive(Drop)]
+pub enum EntryFault {
+    /// There was no memory.
+    Memory,
+    /// The first rule that the row breaks, with the lines that show it.
+    Broken { rule: u8, shows: Lines },
+}
+
+impl From<AllocError> for EntryFault {
+    ghost use Rattle.std.specs.Prelude.{◌≡◌};
+    ghost use Rattle.udb_entry.specs.declared.answers.EntryFault.TheVariants.{Memory};
+
+    ghost from_gives = { λ _ e. e ≡ Memory };
+
+    fn from(_: AllocError) -> EntryFault {
+        EntryFault::Memory
+    }
+}
