@@ -1,5 +1,5 @@
 -- The readers of expressions by the tokens that come next.
-use Rattle.std.proofs.Common.{◌≡◌, ℕ, zero, suc, ◌+◌, ◌-◌, ◌<◌, ◌≤◌, Bool, true, false, cond, List, [], ◌∷◌, length, Option, Some, None, Result, Ok, Err, refl, sym, ap, subst, ◌∙◌, arith, inl, inr}
+use Rattle.std.proofs.Common.{◌≡◌, ℕ, zero, suc, ◌-◌, ◌<◌, ◌≤◌, Bool, true, false, cond, List, [], ◌∷◌, length, Option, Some, None, Ok, Err, refl, sym, ap, ◌∙◌, arith, inl, inr}
 use Rattle.std.specs.Prelude.{max, nat_le, nat_eq}
 use Rattle.std.proofs.lemmas.Bool.{le-leb, eqb-true, eq-eqb}
 use Rattle.std.proofs.lemmas.Bool.Decides.{leb_tells}
@@ -18,19 +18,15 @@ use Rattle.idl_grammar.specs.Outcome.{Outcome, Reader, Move, take, stop, pass}
 use Rattle.idl_grammar.specs.WidthReader as wr
 use Rattle.idl_grammar.specs.ExprReader as er
 use Rattle.idl_grammar.specs.ExprReader.{Found, Part}
-use Rattle.idl_grammar.proofs.Law.{Law, is_sign-true}
+use Rattle.idl_grammar.proofs.Law.{is_sign-true}
 use Rattle.idl_grammar.proofs.ListLaw.{Takes, law_takes}
 use Rattle.idl_grammar.proofs.Apart.{law_reads}
-use Rattle.idl_grammar.proofs.Bounds.{watom_bounded, level_bounded, expr_bounded, inside_bounded}
+use Rattle.idl_grammar.proofs.Bounds.{watom_bounded, level_bounded, expr_bounded}
 use Rattle.idl_grammar.proofs.WidthLaw as wl
-use Rattle.idl_grammar.proofs.ExprLaw.{ExprAt, InsideAt, PartAt, expr_shortens, inside_law, inside_none}
+use Rattle.idl_grammar.proofs.ExprLaw.{ExprAt, PartAt, expr_shortens}
 use Rattle.idl_grammar.proofs.LevelLaw.{expr_part_law, expr_law}
 use Rattle.idl_grammar.proofs.Turns.{parts_turn, more_turn}
-use Rattle.idl_parse.specs.declared.stop.Stop.{Stop}
-use Rattle.idl_parse.specs.declared.stop.Stop.TheVariants as stopped
-use Rattle.idl_parse.specs.declared.readings.Counts.TheVariants as one
 use Rattle.idl_parse.specs.ExprPieces as piece
-use Rattle.idl_parse.specs.Gives.{Gives}
 
 -- ---- the limit
 
@@ -74,13 +70,6 @@ pub expr_takes : (n : ℕ) (ts : List Symbol) → Takes (length ts) (er.expr n t
 expr_takes zero ts = refused_takes (length ts) ts (er.expr 0 ts) (part_none 0 er.any ts refl)
 expr_takes (suc n) ts = law_takes (ExprAt (suc n)) (er.expr (suc n)) (expr_shortens (suc n)) (expr_law (suc n) (omega arith)) ts
 
-inside_laws : (n : ℕ) → Law (InsideAt n) (er.inside n (er.expr n))
-inside_laws zero = inside_none 0 (er.expr 0) (λ ts. part_none 0 er.any ts refl)
-inside_laws (suc n) = inside_law (suc n) (er.expr (suc n)) (expr_law (suc n) (omega arith))
-
-pub inside_read : (n : ℕ) (ts us : List Symbol) (j : Inside × ℕ) → er.inside n (er.expr n) ts ≡ Ok (j, us) → WasRead n ts us j.1
-inside_read n ts us j is = let k = law_reads (InsideAt n) (er.inside n (er.expr n)) (inside_laws n) ts us j is in let b = inside_bounded k.reads in record { small = k.within; shorter = omega arith }
-
 -- ---- widths
 
 pub atom_read : (n : ℕ) (ts us : List Symbol) (x : Width) (f : Bool) (h : ℕ) → wr.width_part n wr.atom ts ≡ Ok ((x, f, h), us) → h ≤ n
@@ -117,10 +106,6 @@ pub operator_some : (k : ℕ) (ts : List Symbol) (op : Infix) → piece.operator
 operator_some k [] op is = absurd cc
 operator_some k (t.sign c ∷ ts) op is = (c, refl, at_some k (binding c) op is)
 operator_some k (c ∷ ts) op is = absurd cc
-
-pub operator_less : (k : ℕ) (ts : List Symbol) (op : Infix) → piece.operator_at k (o.head ts) ≡ Some op → length (o.after ts) < length ts
-operator_less k [] op is = absurd cc
-operator_less k (c ∷ ts) op is = omega arith
 
 module _ (n : ℕ) (inner : Part → Reader Found) where
   -- ---- brackets
@@ -198,34 +183,6 @@ module _ (n : ℕ) (inner : Part → Reader Found) where
   more_turned k x ts us op y is le lt reads = let w = operator_some k ts op is in
       sym (ap (er.more n inner (suc n) k x) w.1 ∙ more_turn n inner (suc n) (suc n) k x y w.0 op (o.after ts) us w.2 le reads (omega arith) (omega arith) lt)
 
-  -- ---- levels
-
-  pub onward_none : (x : Found) (ts : List Symbol) → er.onward n inner 0 x ts ≡ Ok (x, ts)
-  unfolding er.onward
-  onward_none x ts = refl
-
-  pub onward_next : (k : ℕ) (x y : Found) (ts us : List Symbol) → er.onward n inner k x ts ≡ Ok (y, us) → er.onward n inner (suc k) x ts ≡ er.more n inner (suc n) k y us
-  unfolding er.onward
-  onward_next k x y ts us is = rw is refl
-
-  pub onward_turned : (k j : ℕ) (x y z : Found) (ts us vs : List Symbol) → j ≡ suc k → er.onward n inner k x ts ≡ Ok (y, us) → er.more n inner (suc n) k y us ≡ Ok (z, vs) → er.onward n inner j x ts ≡ Ok (z, vs)
-  onward_turned k j x y z ts us vs is first next = subst (λ (i : ℕ). er.onward n inner i x ts ≡ Ok (z, vs)) (sym is) (onward_next k x y ts us first ∙ next)
-
-  pub onward_done : (k j : ℕ) (x y : Found) (ts us : List Symbol) → k ≡ j → er.onward n inner k x ts ≡ Ok (y, us) → er.onward n inner j x ts ≡ Ok (y, us)
-  onward_done k j x y ts us is first = subst (λ (i : ℕ). er.onward n inner i x ts ≡ Ok (y, us)) is first
-
-  onward_breaks : (k : ℕ) (x y : Found) (ts us vs : List Symbol) → er.onward n inner k x ts ≡ Ok (y, us) → er.more n inner (suc n) k y us ≡ Err vs → er.onward n inner (suc k) x ts ≡ Err vs
-  onward_breaks k x y ts us vs first fails = onward_next k x y ts us first ∙ fails
-
-  onward_later : (d j k : ℕ) (x : Found) (ts us : List Symbol) → er.onward n inner j x ts ≡ Err us → j + d ≡ k → er.onward n inner k x ts ≡ Err us
-  unfolding er.onward
-  onward_later zero j k x ts us fails is = let same : j ≡ k = omega arith in subst (λ (i : ℕ). er.onward n inner i x ts ≡ Err us) same fails
-  onward_later (suc d) j zero x ts us fails is = absurd (omega arith)
-  onward_later (suc d) j (suc k) x ts us fails is = let before = onward_later d j k x ts us fails (omega arith) in rw before refl
-
-  pub onward_fails : (k j : ℕ) (x y : Found) (ts us vs : List Symbol) → k < j → er.onward n inner k x ts ≡ Ok (y, us) → er.more n inner (suc n) k y us ≡ Err vs → er.onward n inner j x ts ≡ Err vs
-  onward_fails k j x y ts us vs lt first fails = onward_later (j - suc k) (suc k) j x ts vs (onward_breaks k x y ts us vs first fails) (omega arith)
-
   -- ---- a choice
 
   pub choice_stops : (x : Found) (ts : List Symbol) → o.sees (o.is_sign s.Question) ts ≡ false → er.choice n inner x ts ≡ Ok (x, ts)
@@ -301,40 +258,3 @@ right_read n k wide x ts us y is = go (wr.width_part n wr.atom ts) refl is
     go (Ok p) reads same = let both : ◌≡◌ {A = Found × List Symbol} ((e.WideLeft x.0 p.0.0, suc (max x.1 p.0.2)), p.1) (y, us) = cc in let rest : p.1 ≡ us = ap (λ (v : Found × List Symbol). v.1) both in let nests : suc (max x.1 p.0.2) ≡ y.1 = ap (λ (v : Found × List Symbol). v.0.1) both in
         let r = law_reads (wl.PartAt n wr.atom) (wr.width_part n wr.atom) (wl.width_part_law n wr.atom) ts p.1 p.0 reads in let b = watom_bounded r.reads in record { grows = omega arith; shorter = omega (arith, ap length rest) }
     go (Err vs) reads same = absurd cc
-
--- ---- two readings of one text
-
-module _ {X Y : Type 0} (view : X → Y) where
-  first_of : (b : Bool) → cond b one.First one.Second ≡ one.First → b ≡ true
-  first_of true is = refl
-  first_of false is = absurd cc
-
-  second_of : (b : Bool) → cond b one.First one.Second ≡ one.Second → b ≡ false
-  second_of true is = absurd cc
-  second_of false is = refl
-
-  other_first : (b : Bool) → cond b one.Second one.First ≡ one.First → b ≡ false
-  other_first true is = absurd cc
-  other_first false is = refl
-
-  other_second : (b : Bool) → cond b one.Second one.First ≡ one.Second → b ≡ true
-  other_second true is = refl
-  other_second false is = absurd cc
-
-  pub counts_first : (p q : Outcome Y) (r s : Result X Stop) (us vs : List Symbol) → Gives view p r us → Gives view q s vs → piece.which_counts (piece.how_ended r) (length us) (piece.how_ended s) (length vs) ≡ one.First → Gives view (o.farther p q) r us
-  counts_first p q (Err stopped.Memory) s us vs a b is = tt
-  counts_first p q (Ok x) (Err stopped.Memory) us vs a b is = absurd cc
-  counts_first p q (Err stopped.Fault) (Err stopped.Memory) us vs a b is = absurd cc
-  counts_first p q (Ok x) (Ok y) us vs a b is = let near = first_of _ is in rw (a, b, near) refl
-  counts_first p q (Ok x) (Err stopped.Fault) us vs a b is = let near = first_of _ is in rw (a, b, near) refl
-  counts_first p q (Err stopped.Fault) (Ok y) us vs a b is = let far = other_first _ is in rw (a, b, far) refl
-  counts_first p q (Err stopped.Fault) (Err stopped.Fault) us vs a b is = let far = other_first _ is in rw (a, b, far) refl
-
-  pub counts_second : (p q : Outcome Y) (r s : Result X Stop) (us vs : List Symbol) → Gives view p r us → Gives view q s vs → piece.which_counts (piece.how_ended r) (length us) (piece.how_ended s) (length vs) ≡ one.Second → Gives view (o.farther p q) s vs
-  counts_second p q (Err stopped.Memory) s us vs a b is = absurd cc
-  counts_second p q (Ok x) (Err stopped.Memory) us vs a b is = tt
-  counts_second p q (Err stopped.Fault) (Err stopped.Memory) us vs a b is = tt
-  counts_second p q (Ok x) (Ok y) us vs a b is = let far = second_of _ is in rw (a, b, far) refl
-  counts_second p q (Ok x) (Err stopped.Fault) us vs a b is = let far = second_of _ is in rw (a, b, far) refl
-  counts_second p q (Err stopped.Fault) (Ok y) us vs a b is = let near = other_second _ is in rw (a, b, near) refl
-  counts_second p q (Err stopped.Fault) (Err stopped.Fault) us vs a b is = let near = other_second _ is in rw (a, b, near) refl

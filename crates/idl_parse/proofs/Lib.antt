@@ -9,3 +9,4 @@ pub mod WriteSteps
 pub mod ListSteps
 pub mod ExprSteps
 pub mod ArmSteps
+mod LevelSteps

@@ -1,5 +1,5 @@
 -- The readers of widths by the readers within one level less.
-use Rattle.std.proofs.Common.{◌≡◌, ℕ, zero, suc, ◌-◌, ◌<◌, ◌≤◌, Bool, true, false, List, [], ◌∷◌, length, Option, Some, None, Ok, Err, refl, sym, ap, subst, ◌∙◌, arith, inl, inr}
+use Rattle.std.proofs.Common.{◌≡◌, ℕ, zero, suc, ◌-◌, ◌<◌, ◌≤◌, Bool, true, false, List, [], ◌∷◌, length, Some, None, Ok, Err, refl, sym, ap, ◌∙◌, arith, inl, inr}
 use Rattle.std.specs.Prelude.{max, nat_lt}
 use Rattle.idl_tree.specs.declared.widths.Width.{Width}
 use Rattle.idl_token.specs.declared.kinds.Sign.{Sign}
@@ -10,13 +10,12 @@ use Rattle.idl_grammar.specs.Tables.{summing}
 use Rattle.idl_grammar.specs.Outcome as o
 use Rattle.idl_grammar.specs.WidthReader as wr
 use Rattle.idl_grammar.specs.WidthReader.{Found, Part}
-use Rattle.idl_grammar.proofs.Law.{Law}
 use Rattle.idl_grammar.proofs.Apart.{law_reads}
 use Rattle.idl_grammar.proofs.Bounds.{term_bounded}
 use Rattle.std.proofs.lemmas.Bool.{lt-ltb}
 use Rattle.std.proofs.lemmas.Bool.Decides.{leb_tells}
 use Rattle.idl_grammar.specs.Outcome.{Outcome, Reader}
-use Rattle.idl_grammar.proofs.WidthLaw.{PartAt, AtomAt, TermAt, WholeAt, width_part_law}
+use Rattle.idl_grammar.proofs.WidthLaw.{PartAt, TermAt, width_part_law}
 use Rattle.idl_grammar.proofs.WidthAgain.{adds, sums_turn}
 use Rattle.idl_parse.specs.declared.stop.Adding.{Adding}
 use Rattle.idl_parse.specs.declared.stop.Adding.TheVariants as a

@@ -1,5 +1,6 @@
 -- Parts of the readers of expressions that functions of their own read.
-use Rattle.std.specs.Prelude.{ℕ, suc, max, nat_eq, nat_le, if◌then◌else◌, Bool, List, Option, Some, None, Result, Ok, Err}
+use Rattle.std.specs.Prelude.{ℕ, suc, max, nat_eq, nat_le, nat_lt, if◌then◌else◌, ◌&&◌, Bool, true, false, List, Option, Some, None, Result, Ok, Err}
+use Rattle.idl_token.specs.declared.kinds.Reserved.{Reserved}
 use Rattle.idl_token.specs.declared.kinds.Reserved.TheVariants as r
 use Rattle.idl_token.specs.declared.kinds.Sign.TheVariants as s
 use Rattle.idl_tree.specs.declared.widths.Width.{Width}
@@ -9,9 +10,9 @@ use Rattle.idl_tree.specs.declared.expressions.Expr.{Expr}
 use Rattle.idl_tree.specs.declared.expressions.Expr.TheVariants as e
 use Rattle.idl_grammar.specs.Symbol.{Symbol}
 use Rattle.idl_grammar.specs.Symbol as t
-use Rattle.idl_grammar.specs.Tables.{Infix, plain, wide, binding, unary_of, is_access, sized_width, sw_read}
+use Rattle.idl_grammar.specs.Tables.{Infix, plain, wide, binding, unary_of, enum_of, is_access, sized_width, mxlen, sw_read}
 use Rattle.idl_grammar.specs.ExprGrammar as g
-use Rattle.idl_grammar.specs.Outcome.{Reader, Move, take, stop, ◌>>=◌, ◌>>◌, pure, choose, among, want, expect, is_reserved, is_word, only, name}
+use Rattle.idl_grammar.specs.Outcome.{Reader, Move, take, stop, ◌>>=◌, ◌>>◌, pure, among, want, expect, is_reserved, is_word, name}
 use Rattle.idl_grammar.specs.WidthReader as wr
 use Rattle.idl_grammar.specs.ExprReader as er
 use Rattle.idl_grammar.specs.ExprReader.{Found}
@@ -49,6 +50,16 @@ at_level k (Some (j, x)) = if nat_eq j k then Some x else None
 abbrev pub operator_at : ℕ → Option Symbol → Option Infix
 operator_at k (Some (t.sign c)) = at_level k (binding c)
 operator_at k _ = None
+
+-- the sign between two operands that comes next, of a level that isn't below the first number and is
+-- below the second
+abbrev pub between : ℕ → ℕ → Option (ℕ × Infix) → Option (ℕ × Infix)
+between k l None = None
+between k l (Some (j, x)) = if nat_le k j && nat_lt j l then Some (j, x) else None
+
+abbrev pub next_operator : ℕ → ℕ → Option Symbol → Option (ℕ × Infix)
+next_operator k l (Some (t.sign c)) = between k l (binding c)
+next_operator k l _ = None
 
 abbrev pub unary_at : Option Symbol → Option Unary
 unary_at (Some (t.sign c)) = unary_of c
@@ -139,6 +150,19 @@ implemented_version = do
   expect s.CloseParen
   pure (e.ImplementedVersion x y, 1)
 
+abbrev pub member_by : Option EnumKind → Move Found
+member_by None = stop
+member_by (Some kind) = take (member kind)
+
+-- by a word of the language that begins an operand which holds no expression
+abbrev pub plain_by : Reserved → Move Found
+plain_by r.True = take (pure (e.Flag true, 1))
+plain_by r.False = take (pure (e.Flag false, 1))
+plain_by r.CsrValue = take new_field
+plain_by r.Xlen = take (empty_call (e.Word mxlen))
+plain_by r.Mode = take (empty_call e.Mode)
+plain_by c = member_by (enum_of c)
+
 -- ---- CSRs
 
 abbrev pub soft_read : Found → Reader Found
@@ -153,10 +177,6 @@ abbrev pub word_read : List ℕ → Reader Found
 word_read x = do
   expect s.CloseParen
   pure (e.SoftRead (e.Word x), 2)
-
--- after `CSR[`
-abbrev pub csr_place : (n : ℕ) → (er.Part → Reader Found) → Reader Found
-csr_place n inner = choose (er.csr_by n inner) (only n (er.address n inner er.any))
 
 -- ---- two readings of one text, by how they ended and what they left
 

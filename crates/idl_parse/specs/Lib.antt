@@ -8,3 +8,4 @@ pub mod Parse
 pub mod StmtPieces
 pub mod WritePieces
 pub mod ExprPieces
+pub mod Steps

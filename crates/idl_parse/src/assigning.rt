@@ -16,9 +16,8 @@ ghost use Rattle.idl_parse.specs.Inside.{inside_of};
 ghost use Rattle.idl_parse.specs.StmtPieces as piece;
 ghost use Rattle.idl_parse.specs.WritePieces as write;
 
-use crate::brackets::inside;
 use crate::cursor::{Cursor, expect, expect_word, name};
-use crate::exprs::{Inside, args, expr, expr_behind};
+use crate::exprs::{Inside, args, expr, expr_behind, in_brackets};
 use crate::plain::{both, last_value};
 use crate::stop::Stop;
 use idl_seen::Seen;
@@ -48,7 +47,10 @@ fn part_of_word(name: Name, found: Inside) -> Target
     ensures { result ≡ grammar.part_of_word name (inside_of found) }
 {
     match found {
-        Inside::Place(at) => Target::Bit { name, at },
+        Inside::Place(at) => Target::Bit {
+            name,
+            at: at.into_inner(),
+        },
         Inside::Slice { high, low } => Target::Slice { name, high, low },
     }
 }
@@ -123,7 +125,7 @@ fn part(alloc: Global, tokens: &mut Cursor<'_>, below: u32, name: Name) -> Resul
     requires { 1 ≤ below }
     ensures { Gives (λ x. (x.0, x.1)) (piece.part below name (symbols tokens.old.rest.now)) result (symbols tokens.new.rest.now) }
 {
-    let (found, nesting) = inside(alloc, tokens, below - 1)?;
+    let (found, nesting) = in_brackets(alloc, tokens, below - 1)?;
     expect(tokens, Sign::Assign)?;
     assigned(alloc, tokens, below, part_of_word(name, found), nesting + 1)
 }
@@ -223,11 +225,11 @@ fn any_address(alloc: Global, tokens: &mut Cursor<'_>, below: u32) -> Result<(St
     Ok((soft(address, value), high.max(nesting) + 1))
 }
 
-fn worded_address(
+fn worded_address<'a>(
     alloc: Global,
-    tokens: &mut Cursor<'_>,
+    tokens: &mut Cursor<'a>,
     below: u32,
-    word: &str,
+    word: &'a str,
 ) -> Result<(Stmt, u64), Stop>
     ensures { Gives (λ x. (x.0, x.1)) (write.address below (er.behind word.now) (symbols tokens.old.rest.now)) result (symbols tokens.new.rest.now) }
 {
@@ -243,11 +245,11 @@ fn address(alloc: Global, tokens: &mut Cursor<'_>, below: u32) -> Result<(Stmt, 
 }
 
 // An address that begins with a word, which has been read.
-fn address_behind(
+fn address_behind<'a>(
     alloc: Global,
-    tokens: &mut Cursor<'_>,
+    tokens: &mut Cursor<'a>,
     below: u32,
-    word: &str,
+    word: &'a str,
 ) -> Result<(Stmt, u64), Stop>
     ensures { Gives (λ x. (x.0, x.1)) (piece.address below (er.behind word.now) (symbols tokens.old.rest.now)) result (symbols tokens.new.rest.now) }
 {
@@ -342,11 +344,11 @@ fn field(
 }
 
 #[tactic(auto, unfolding(idl_grammar::specs::StmtReader::csr_word))]
-fn csr_word(
+fn csr_word<'a>(
     alloc: Global,
-    tokens: &mut Cursor<'_>,
+    tokens: &mut Cursor<'a>,
     below: u32,
-    word: &str,
+    word: &'a str,
 ) -> Result<(Stmt, u64), Stop>
     requires { 1 ≤ below }
     ensures { Gives (λ x. (x.0, x.1)) (piece.csr_word below word.now (symbols tokens.old.rest.now)) result (symbols tokens.new.rest.now) }
@@ -359,7 +361,7 @@ fn csr_word(
     }
 }
 
-fn csr_inside(alloc: Global, tokens: &mut Cursor<'_>, below: u32) -> Result<(Stmt, u64), Stop>
+fn csr_in_brackets(alloc: Global, tokens: &mut Cursor<'_>, below: u32) -> Result<(Stmt, u64), Stop>
     requires { 1 ≤ below }
     ensures { Gives (λ x. (x.0, x.1)) (piece.csr_inside below (symbols tokens.old.rest.now)) result (symbols tokens.new.rest.now) }
 {
@@ -379,5 +381,5 @@ pub fn csr(alloc: Global, tokens: &mut Cursor<'_>, below: u32) -> Result<(Stmt, 
     ensures { Gives (λ x. (x.0, x.1)) (piece.csr below (symbols tokens.old.rest.now)) result (symbols tokens.new.rest.now) }
 {
     expect(tokens, Sign::OpenBracket)?;
-    csr_inside(alloc, tokens, below)
+    csr_in_brackets(alloc, tokens, below)
 }

@@ -1,12 +1,14 @@
-//! Bodies and functions of the language, read exactly. Expressions are not read yet, so the calls on
-//! sources are private so far; the tokens and the laws on what a source spells are public.
+//! Bodies and functions of the language, read exactly.
 #![tactic(auto)]
 
 mod assigning;
-mod brackets;
+mod atoms;
+mod behind;
+mod closing;
 mod cursor;
 mod exprs;
 mod faults;
+mod filling;
 mod functions;
 mod headers;
 mod laws;
@@ -14,6 +16,7 @@ mod lexing;
 mod literals;
 mod parse;
 mod plain;
+mod progress;
 mod readings;
 mod signs;
 mod stmts;
@@ -26,3 +29,4 @@ pub use faults::ParseFault;
 pub use idl_token::{Reserved, Sign, Special, Token, TokenKind, Tokens};
 pub use laws::{one_answer, printed_text_reads_back};
 pub use lexing::lex;
+pub use parse::{parse_body, parse_functions, parse_shown, parse_shown_functions};

@@ -1,6 +1,6 @@
 //! Operands that hold no expression, and what stands behind those that do.
 
-ghost use Rattle.std.specs.Prelude.{◌≡◌, ◌≤◌, ◌<◌, ◌^◌, IfOk};
+ghost use Rattle.std.specs.Prelude.{◌≡◌, ◌≤◌, ◌<◌, ◌+◌, ◌^◌, IfOk};
 ghost use Rattle.idl_tree.specs.declared.expressions.Expr.TheVariants as e;
 ghost use Rattle.idl_tree.specs.declared.widths.Width.TheVariants as w;
 ghost use Rattle.idl_grammar.specs.Outcome as o;
@@ -16,7 +16,7 @@ use crate::stop::Stop;
 use crate::trees;
 use idl_seen::Seen;
 use idl_token::{Reserved, Sign};
-use idl_tree::{Chars, EnumKind, Expr, Name, Width};
+use idl_tree::{Boxed, Chars, EnumKind, Expr, Name, Width};
 use std::alloc::{AllocError, Global};
 
 fn short(number: u128) -> bool
@@ -61,7 +61,8 @@ pub fn access(tokens: &mut Cursor<'_>) -> Result<u8, Stop>
     Ok(bits)
 }
 
-fn word(alloc: Global, text: &str) -> Result<Expr, AllocError>
+/// The word as an expression.
+pub fn word(alloc: Global, text: &str) -> Result<Expr, AllocError>
     ensures { IfOk result (λ x. x ≡ e.Word text.now) }
 {
     Ok(Expr::Word(Name::of(alloc, text)?))
@@ -75,7 +76,8 @@ fn parameter(alloc: Global, text: &str) -> Result<Width, AllocError>
 
 /// A number or a text.
 pub fn literal(alloc: Global, tokens: &mut Cursor<'_>) -> Result<(Expr, u64), Stop>
-    ensures { Gives (λ x. (x.0, x.1)) (o.among piece.literal_by (symbols tokens.old.rest.now)) result (symbols tokens.new.rest.now) }
+    ensures read { Gives (λ x. (x.0, x.1)) (o.among piece.literal_by (symbols tokens.old.rest.now)) result (symbols tokens.new.rest.now) }
+    ensures small { IfOk result (λ x. x.1 ≤ 1) }
 {
     match tokens.peek() {
         Some(Seen::Number(number)) => {
@@ -131,7 +133,8 @@ pub fn literal(alloc: Global, tokens: &mut Cursor<'_>) -> Result<(Expr, u64), St
 
 /// What follows the word of an enumeration.
 pub fn member(alloc: Global, tokens: &mut Cursor<'_>, kind: EnumKind) -> Result<(Expr, u64), Stop>
-    ensures { Gives (λ x. (x.0, x.1)) (piece.member kind (symbols tokens.old.rest.now)) result (symbols tokens.new.rest.now) }
+    ensures read { Gives (λ x. (x.0, x.1)) (piece.member kind (symbols tokens.old.rest.now)) result (symbols tokens.new.rest.now) }
+    ensures small { IfOk result (λ x. x.1 ≤ 1) }
 {
     expect(tokens, Sign::Path)?;
     let name = name(alloc, tokens)?;
@@ -140,7 +143,8 @@ pub fn member(alloc: Global, tokens: &mut Cursor<'_>, kind: EnumKind) -> Result<
 
 /// What follows the word for the value that software writes.
 pub fn new_field(alloc: Global, tokens: &mut Cursor<'_>) -> Result<(Expr, u64), Stop>
-    ensures { Gives (λ x. (x.0, x.1)) (piece.new_field (symbols tokens.old.rest.now)) result (symbols tokens.new.rest.now) }
+    ensures read { Gives (λ x. (x.0, x.1)) (piece.new_field (symbols tokens.old.rest.now)) result (symbols tokens.new.rest.now) }
+    ensures small { IfOk result (λ x. x.1 ≤ 1) }
 {
     expect(tokens, Sign::Dot)?;
     let name = name(alloc, tokens)?;
@@ -149,7 +153,8 @@ pub fn new_field(alloc: Global, tokens: &mut Cursor<'_>) -> Result<(Expr, u64), 
 
 /// What follows the word for the width of registers.
 pub fn xlen(alloc: Global, tokens: &mut Cursor<'_>) -> Result<(Expr, u64), Stop>
-    ensures { Gives (λ x. (x.0, x.1)) (piece.empty_call (e.Word mxlen) (symbols tokens.old.rest.now)) result (symbols tokens.new.rest.now) }
+    ensures read { Gives (λ x. (x.0, x.1)) (piece.empty_call (e.Word mxlen) (symbols tokens.old.rest.now)) result (symbols tokens.new.rest.now) }
+    ensures small { IfOk result (λ x. x.1 ≤ 1) }
 {
     expect(tokens, Sign::OpenParen)?;
     expect(tokens, Sign::CloseParen)?;
@@ -158,7 +163,8 @@ pub fn xlen(alloc: Global, tokens: &mut Cursor<'_>) -> Result<(Expr, u64), Stop>
 
 /// What follows the word for the privilege mode.
 pub fn mode(tokens: &mut Cursor<'_>) -> Result<(Expr, u64), Stop>
-    ensures { Gives (λ x. (x.0, x.1)) (piece.empty_call e.Mode (symbols tokens.old.rest.now)) result (symbols tokens.new.rest.now) }
+    ensures read { Gives (λ x. (x.0, x.1)) (piece.empty_call e.Mode (symbols tokens.old.rest.now)) result (symbols tokens.new.rest.now) }
+    ensures small { IfOk result (λ x. x.1 ≤ 1) }
 {
     expect(tokens, Sign::OpenParen)?;
     expect(tokens, Sign::CloseParen)?;
@@ -176,7 +182,8 @@ fn extension(alloc: Global, tokens: &mut Cursor<'_>) -> Result<Name, Stop>
 
 /// What follows the word that asks for an extension.
 pub fn implemented(alloc: Global, tokens: &mut Cursor<'_>) -> Result<(Expr, u64), Stop>
-    ensures { Gives (λ x. (x.0, x.1)) (piece.implemented (symbols tokens.old.rest.now)) result (symbols tokens.new.rest.now) }
+    ensures read { Gives (λ x. (x.0, x.1)) (piece.implemented (symbols tokens.old.rest.now)) result (symbols tokens.new.rest.now) }
+    ensures small { IfOk result (λ x. x.1 ≤ 1) }
 {
     let name = extension(alloc, tokens)?;
     expect(tokens, Sign::CloseParen)?;
@@ -197,7 +204,8 @@ fn quoted(alloc: Global, tokens: &mut Cursor<'_>) -> Result<Chars, Stop>
 
 /// What follows the word that asks for a version of an extension.
 pub fn implemented_version(alloc: Global, tokens: &mut Cursor<'_>) -> Result<(Expr, u64), Stop>
-    ensures { Gives (λ x. (x.0, x.1)) (piece.implemented_version (symbols tokens.old.rest.now)) result (symbols tokens.new.rest.now) }
+    ensures read { Gives (λ x. (x.0, x.1)) (piece.implemented_version (symbols tokens.old.rest.now)) result (symbols tokens.new.rest.now) }
+    ensures small { IfOk result (λ x. x.1 ≤ 1) }
 {
     let extension = extension(alloc, tokens)?;
     expect(tokens, Sign::Comma)?;
@@ -210,11 +218,12 @@ pub fn implemented_version(alloc: Global, tokens: &mut Cursor<'_>) -> Result<(Ex
 pub fn soft_read(
     alloc: Global,
     tokens: &mut Cursor<'_>,
-    of: Expr,
+    of: Boxed<Expr>,
     nesting: u64,
-) -> Result<(Expr, u64), Stop>
+) -> Result<(Boxed<Expr>, u64), Stop>
     requires { nesting < 2 ^ 32 }
-    ensures { Gives (λ x. (x.0, x.1)) (piece.soft_read (of, nesting) (symbols tokens.old.rest.now)) result (symbols tokens.new.rest.now) }
+    ensures read { Gives (λ x. (x.0, x.1)) (piece.soft_read (of, nesting) (symbols tokens.old.rest.now)) result (symbols tokens.new.rest.now) }
+    ensures small { IfOk result (λ x. x.1 ≤ nesting + 1) }
 {
     expect(tokens, Sign::Dot)?;
     expect_word(tokens, "sw_read")?;
@@ -224,11 +233,12 @@ pub fn soft_read(
 }
 
 fn word_read(alloc: Global, tokens: &mut Cursor<'_>, csr: &str) -> Result<(Expr, u64), Stop>
-    ensures { Gives (λ x. (x.0, x.1)) (piece.word_read csr.now (symbols tokens.old.rest.now)) result (symbols tokens.new.rest.now) }
+    ensures read { Gives (λ x. (x.0, x.1)) (piece.word_read csr.now (symbols tokens.old.rest.now)) result (symbols tokens.new.rest.now) }
+    ensures small { IfOk result (λ x. x.1 ≤ 2) }
 {
     expect(tokens, Sign::CloseParen)?;
-    let csr = word(alloc, csr)?;
-    Ok((trees::soft_read(alloc, csr)?, 2))
+    let csr = Boxed::new(alloc, word(alloc, csr)?)?;
+    Ok((Expr::SoftRead(csr), 2))
 }
 
 fn plain_field(alloc: Global, csr: &str, field: Name) -> Result<Expr, AllocError>
@@ -254,7 +264,8 @@ fn field_or_read(
     csr: &str,
     field: Name,
 ) -> Result<(Expr, u64), Stop>
-    ensures { Gives (λ x. (x.0, x.1)) (er.field_or_read below (er.expr_part below) csr.now field (symbols tokens.old.rest.now)) result (symbols tokens.new.rest.now) }
+    ensures read { Gives (λ x. (x.0, x.1)) (er.field_or_read below (er.expr_part below) csr.now field (symbols tokens.old.rest.now)) result (symbols tokens.new.rest.now) }
+    ensures small { IfOk result (λ x. x.1 ≤ below + 1) }
 {
     if !is_read(&field) || !tokens.sees(Sign::OpenParen) {
         return Ok((plain_field(alloc, csr, field)?, 1));
@@ -274,7 +285,8 @@ pub fn field(
     below: u32,
     csr: &str,
 ) -> Result<(Expr, u64), Stop>
-    ensures { Gives (λ x. (x.0, x.1)) (er.field below (er.expr_part below) csr.now (symbols tokens.old.rest.now)) result (symbols tokens.new.rest.now) }
+    ensures read { Gives (λ x. (x.0, x.1)) (er.field below (er.expr_part below) csr.now (symbols tokens.old.rest.now)) result (symbols tokens.new.rest.now) }
+    ensures small { IfOk result (λ x. x.1 ≤ below + 1) }
 {
     expect(tokens, Sign::Dot)?;
     let field = name(alloc, tokens)?;

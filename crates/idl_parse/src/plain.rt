@@ -13,7 +13,8 @@ ghost use Rattle.idl_parse.specs.StmtPieces as piece;
 ghost use Rattle.idl_parse.specs.WritePieces as write;
 
 use crate::cursor::{Cursor, expect, expect_reserved, name};
-use crate::exprs::{access, expr};
+use crate::exprs::expr;
+use crate::literals::access;
 use crate::stop::Stop;
 use crate::types::{shape, width};
 use idl_token::{Reserved, Sign};

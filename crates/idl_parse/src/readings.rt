@@ -1,6 +1,6 @@
 //! Widths in expressions, and the choice between two readings of one text.
 
-ghost use Rattle.std.specs.Prelude.{◌≡◌, ◌≤◌, ℕ, IfOk};
+ghost use Rattle.std.specs.Prelude.{◌≡◌, ◌≤◌, ◌<◌, ◌+◌, ℕ, IfOk};
 ghost use Rattle.idl_grammar.specs.ExprReader as er;
 ghost use Rattle.idl_grammar.specs.ExprGrammar as g;
 ghost use Rattle.idl_grammar.specs.Outcome as o;
@@ -18,7 +18,7 @@ use crate::types::width;
 use crate::widths::width_part;
 use idl_seen::Seen;
 use idl_token::Sign;
-use idl_tree::{Expr, Width};
+use idl_tree::{Boxed, Expr, Width};
 use std::alloc::Global;
 
 /// A whole width, whose nesting is told to be at most `depth`.
@@ -51,11 +51,12 @@ pub fn wide_right(
     alloc: Global,
     tokens: &mut Cursor<'_>,
     below: u32,
-    left: Expr,
+    left: Boxed<Expr>,
     nesting: u64,
-) -> Result<(Expr, u64), Stop>
+) -> Result<(Boxed<Expr>, u64), Stop>
     requires { nesting ≤ below }
-    ensures { Gives (λ x. (x.0, x.1)) (piece.wide_right below (left, nesting) (symbols tokens.old.rest.now)) result (symbols tokens.new.rest.now) }
+    ensures read { Gives (λ x. (x.0, x.1)) (piece.wide_right below (left, nesting) (symbols tokens.old.rest.now)) result (symbols tokens.new.rest.now) }
+    ensures small { IfOk result (λ x. (x.1 ≤ below + 1) × (nesting < x.1)) }
 {
     let (by, _, inner) = atom_within(alloc, tokens, below)?;
     Ok((trees::wide_left(alloc, left, by)?, nesting.max(inner) + 1))
@@ -131,10 +132,10 @@ fn which_counts(first: Ended, first_left: usize, second: Ended, second_left: usi
 /// at `end`, the second where the cursor stands.
 pub fn farther<'a>(
     tokens: &mut Cursor<'a>,
-    first: Result<(Expr, u64), Stop>,
+    first: Result<(Boxed<Expr>, u64), Stop>,
     end: &'a [Seen<'a>],
-    second: Result<(Expr, u64), Stop>,
-) -> Result<(Expr, u64), Stop>
+    second: Result<(Boxed<Expr>, u64), Stop>,
+) -> Result<(Boxed<Expr>, u64), Stop>
     ensures read { (p q : o.Outcome er.Found) → Gives (λ x. (x.0, x.1)) p first (symbols end.now) → Gives (λ x. (x.0, x.1)) q second (symbols tokens.old.rest.now) → Gives (λ x. (x.0, x.1)) (o.farther p q) result (symbols tokens.new.rest.now) }
     ensures small { (n : ℕ) → IfOk first (λ x. x.1 ≤ n) → IfOk second (λ x. x.1 ≤ n) → IfOk result (λ x. x.1 ≤ n) }
 {

@@ -1,6 +1,6 @@
 //! The signs of expressions.
 
-ghost use Rattle.std.specs.Prelude.{◌≡◌, option_map};
+ghost use Rattle.std.specs.Prelude.{◌≡◌};
 ghost use Rattle.idl_grammar.specs.Outcome as o;
 ghost use Rattle.idl_grammar.specs.Tables as tables;
 ghost use Rattle.idl_seen.specs.Seen.{symbols};
@@ -65,21 +65,28 @@ fn binding(sign: Sign) -> Option<(u8, Operator)>
     }
 }
 
-fn at_level(sign: Sign, level: u8) -> Option<Operator>
-    ensures { option_map piece.operator_of result ≡ piece.at_level level (tables.binding sign) }
+fn between(sign: Sign, from: u8, below: u8) -> Option<(u8, Operator)>
+    ensures { piece.leveled result ≡ piece.between from below (tables.binding sign) }
 {
     match binding(sign) {
-        Some((found, operator)) => { if found == level { Some(operator) } else { None } }
+        Some((level, operator)) => {
+            if from <= level && level < below {
+                Some((level, operator))
+            } else {
+                None
+            }
+        }
         None => None,
     }
 }
 
-/// The sign of a level between two operands that comes next.
-pub fn operator_at(tokens: &Cursor<'_>, level: u8) -> Option<Operator>
-    ensures { option_map piece.operator_of result ≡ piece.operator_at level (o.head (symbols tokens.now.rest.now)) }
+/// The sign between two operands that comes next, and its level, if that is none before `from` and
+/// comes before `below`.
+pub fn next_operator(tokens: &Cursor<'_>, from: u8, below: u8) -> Option<(u8, Operator)>
+    ensures { piece.leveled result ≡ piece.next_operator from below (o.head (symbols tokens.now.rest.now)) }
 {
     match tokens.peek() {
-        Some(Seen::Sign(sign)) => at_level(sign, level),
+        Some(Seen::Sign(sign)) => between(sign, from, below),
         _ => None,
     }
 }

@@ -9,130 +9,81 @@ use crate::exprs::Inside;
 use idl_tree::{Binary, Boxed, Expr, Unary, Width};
 use std::alloc::{AllocError, Global};
 
-pub fn unary(alloc: Global, sign: Unary, of: Expr) -> Result<Expr, AllocError>
+pub fn unary(alloc: Global, sign: Unary, of: Boxed<Expr>) -> Result<Boxed<Expr>, AllocError>
     ensures { IfOk result (λ x. x ≡ e.Unary sign of) }
 {
-    Ok(Expr::Unary {
-        sign,
-        of: Boxed::new(alloc, of)?,
-    })
+    Boxed::new(alloc, Expr::Unary { sign, of })
 }
 
-pub fn binary(alloc: Global, sign: Binary, left: Expr, right: Expr) -> Result<Expr, AllocError>
+pub fn binary(
+    alloc: Global,
+    sign: Binary,
+    left: Boxed<Expr>,
+    right: Boxed<Expr>,
+) -> Result<Boxed<Expr>, AllocError>
     ensures { IfOk result (λ x. x ≡ e.Binary sign left right) }
 {
-    let left = Boxed::new(alloc, left)?;
-    let right = Boxed::new(alloc, right)?;
-    Ok(Expr::Binary { sign, left, right })
+    Boxed::new(alloc, Expr::Binary { sign, left, right })
 }
 
-pub fn wide_left(alloc: Global, left: Expr, by: Width) -> Result<Expr, AllocError>
+pub fn wide_left(alloc: Global, left: Boxed<Expr>, by: Width) -> Result<Boxed<Expr>, AllocError>
     ensures { IfOk result (λ x. x ≡ e.WideLeft left by) }
 {
-    Ok(Expr::WideLeft {
-        left: Boxed::new(alloc, left)?,
-        by,
-    })
+    Boxed::new(alloc, Expr::WideLeft { left, by })
 }
 
-fn boxes(alloc: Global, one: Expr, two: Expr) -> Result<(Boxed<Expr>, Boxed<Expr>), AllocError>
-    ensures { IfOk result (λ x. (x.0 ≡ one) × (x.1 ≡ two)) }
-{
-    let one = Boxed::new(alloc, one)?;
-    Ok((one, Boxed::new(alloc, two)?))
-}
-
-fn boxed_choice(
+pub fn choice(
     alloc: Global,
-    test: Expr,
+    test: Boxed<Expr>,
     yes: Boxed<Expr>,
     no: Boxed<Expr>,
-) -> Result<Expr, AllocError>
+) -> Result<Boxed<Expr>, AllocError>
     ensures { IfOk result (λ x. x ≡ e.Choice test yes no) }
 {
-    Ok(Expr::Choice {
-        test: Boxed::new(alloc, test)?,
-        yes,
-        no,
-    })
+    Boxed::new(alloc, Expr::Choice { test, yes, no })
 }
 
-pub fn choice(alloc: Global, test: Expr, yes: Expr, no: Expr) -> Result<Expr, AllocError>
-    ensures { IfOk result (λ x. x ≡ e.Choice test yes no) }
-{
-    let (yes, no) = boxes(alloc, yes, no)?;
-    boxed_choice(alloc, test, yes, no)
-}
-
-pub fn repeat(alloc: Global, times: Width, of: Expr) -> Result<Expr, AllocError>
+pub fn repeat(alloc: Global, times: Width, of: Boxed<Expr>) -> Result<Boxed<Expr>, AllocError>
     ensures { IfOk result (λ x. x ≡ e.Repeat times of) }
 {
-    Ok(Expr::Repeat {
-        times,
-        of: Boxed::new(alloc, of)?,
-    })
+    Boxed::new(alloc, Expr::Repeat { times, of })
 }
 
-pub fn as_signed(alloc: Global, of: Expr) -> Result<Expr, AllocError>
+pub fn as_signed(alloc: Global, of: Boxed<Expr>) -> Result<Boxed<Expr>, AllocError>
     ensures { IfOk result (λ x. x ≡ e.Signed of) }
 {
-    Ok(Expr::Signed(Boxed::new(alloc, of)?))
+    Boxed::new(alloc, Expr::Signed(of))
 }
 
-pub fn resize(alloc: Global, width: Width, of: Expr) -> Result<Expr, AllocError>
+pub fn resize(alloc: Global, width: Width, of: Boxed<Expr>) -> Result<Boxed<Expr>, AllocError>
     ensures { IfOk result (λ x. x ≡ e.Resize width of) }
 {
-    Ok(Expr::Resize {
-        width,
-        of: Boxed::new(alloc, of)?,
-    })
+    Boxed::new(alloc, Expr::Resize { width, of })
 }
 
-pub fn register(alloc: Global, of: Expr) -> Result<Expr, AllocError>
+pub fn register(alloc: Global, of: Boxed<Expr>) -> Result<Boxed<Expr>, AllocError>
     ensures { IfOk result (λ x. x ≡ e.Register of) }
 {
-    Ok(Expr::Register(Boxed::new(alloc, of)?))
+    Boxed::new(alloc, Expr::Register(of))
 }
 
-pub fn soft_read(alloc: Global, of: Expr) -> Result<Expr, AllocError>
+pub fn soft_read(alloc: Global, of: Boxed<Expr>) -> Result<Boxed<Expr>, AllocError>
     ensures { IfOk result (λ x. x ≡ e.SoftRead of) }
 {
-    Ok(Expr::SoftRead(Boxed::new(alloc, of)?))
+    Boxed::new(alloc, Expr::SoftRead(of))
 }
 
-pub fn read_memory(alloc: Global, bits: u8, at: Expr) -> Result<Expr, AllocError>
+pub fn read_memory(alloc: Global, bits: u8, at: Boxed<Expr>) -> Result<Boxed<Expr>, AllocError>
     ensures { IfOk result (λ x. x ≡ e.ReadMemory bits at) }
 {
-    Ok(Expr::ReadMemory {
-        bits,
-        at: Boxed::new(alloc, at)?,
-    })
+    Boxed::new(alloc, Expr::ReadMemory { bits, at })
 }
 
-fn index(alloc: Global, of: Expr, at: Expr) -> Result<Expr, AllocError>
-    ensures { IfOk result (λ x. x ≡ e.Index of at) }
-{
-    Ok(Expr::Index {
-        of: Boxed::new(alloc, of)?,
-        at: Boxed::new(alloc, at)?,
-    })
-}
-
-fn slice(alloc: Global, of: Expr, high: Width, low: Width) -> Result<Expr, AllocError>
-    ensures { IfOk result (λ x. x ≡ e.Slice of high low) }
-{
-    Ok(Expr::Slice {
-        of: Boxed::new(alloc, of)?,
-        high,
-        low,
-    })
-}
-
-pub fn part_of(alloc: Global, of: Expr, inside: Inside) -> Result<Expr, AllocError>
+pub fn part_of(alloc: Global, of: Boxed<Expr>, inside: Inside) -> Result<Boxed<Expr>, AllocError>
     ensures { IfOk result (λ x. x ≡ g.part_of of (inside_of inside)) }
 {
     match inside {
-        Inside::Place(at) => index(alloc, of, at),
-        Inside::Slice { high, low } => slice(alloc, of, high, low),
+        Inside::Place(at) => Boxed::new(alloc, Expr::Index { of, at }),
+        Inside::Slice { high, low } => Boxed::new(alloc, Expr::Slice { of, high, low }),
     }
 }
