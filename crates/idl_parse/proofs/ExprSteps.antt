@@ -84,7 +84,7 @@ pub seen : (c : Sign) (ts : List Symbol) → o.sees (o.is_sign c) ts ≡ true �
 seen c [] is = absurd cc
 seen c (d ∷ ts) is = ap (λ (x : Symbol). x ∷ ts) (is_sign-true c d is)
 
-above : (h n : ℕ) → n < h → nat_le h n ≡ false
+pub above : (h n : ℕ) → n < h → nat_le h n ≡ false
 above h n lt = elim (leb_tells h n) [ inl p ↦ absurd (let le = p.1 in omega arith) | inr p ↦ p.0 ]
 
 pub seen_less : (c : Sign) (ts : List Symbol) → o.sees (o.is_sign c) ts ≡ true → length (o.after ts) < length ts

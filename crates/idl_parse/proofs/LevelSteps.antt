@@ -33,7 +33,7 @@ use Rattle.idl_parse.specs.declared.progress.Hole.TheVariants as hole
 use Rattle.idl_parse.specs.declared.progress.Step.TheVariants as st
 use Rattle.idl_parse.specs.ExprPieces as piece
 use Rattle.idl_parse.specs.Steps as step
-use Rattle.idl_parse.proofs.ExprSteps.{more_stops, more_refused, more_fails, more_turned, right_read, parts_stops, parts_refused, parts_fails, parts_turned, choice_stops, choice_refused, choice_goes, operand_plain, operand_signed, operand_refused}
+use Rattle.idl_parse.proofs.ExprSteps.{above, more_stops, more_refused, more_fails, more_turned, right_read, parts_stops, parts_refused, parts_fails, parts_turned, choice_stops, choice_refused, choice_goes, operand_plain, operand_signed, operand_refused}
 
 -- ---- one reading behind another
 
@@ -94,14 +94,11 @@ not_equal j k differ = go (nat_eq j k) refl
     go true is = absurd (differ (eqb-true j k is))
     go false is = is
 
-not_leb : (k j : ℕ) → j < k → nat_le k j ≡ false
-not_leb k j lt = elim (leb_tells k j) [ inl p ↦ absurd (let le = p.1 in omega arith) | inr p ↦ p.0 ]
-
 between_some : (k l j : ℕ) (x : Infix) → k ≤ j → j < l → piece.between k l (Some (j, x)) ≡ Some (j, x)
 between_some k l j x low high = let a = le-leb k j low in let b = lt-ltb j l high in rw (a, b) refl
 
 between_low : (k l j : ℕ) (x : Infix) → j < k → piece.between k l (Some (j, x)) ≡ None
-between_low k l j x lt = let a = not_leb k j lt in rw a refl
+between_low k l j x lt = let a = above k j lt in rw a refl
 
 between_high : (k l j : ℕ) (x : Infix) → l ≤ j → piece.between k l (Some (j, x)) ≡ None
 between_high k l j x le = go (nat_le k j) refl
@@ -186,12 +183,6 @@ none_empty k l (t.sign c ∷ ts) le = go (binding c)
 none_empty k l (c ∷ ts) le = refl
 
 module _ (n : ℕ) where
-  inner : Part → Reader Found
-  inner = er.expr_part n
-
-  more : ℕ → Found → Reader Found
-  more k = er.more n (er.expr_part n) (suc n) k
-
   climb_zero : (k : ℕ) (x : Found) (ts : List Symbol) → step.climb n 0 k x ts ≡ Ok (x, ts)
   unfolding step.climb
   climb_zero k x ts = refl
