@@ -24,8 +24,9 @@ fn is_name(text: &str) -> bool
     !bytes.is_empty() && bytes.len() <= 64 && bytes.iter().all(|byte| is_name_byte(*byte))
 }
 
-/// The name that a text is: 1 to 64 bytes, each visible ASCII other than `/`, `%`, `?` and `#`,
-/// so that a name stands in a path as it is.
+/// The name that a text is, as rows, commands and routes give it: 1 to 64 bytes, each visible ASCII
+/// other than `/`, `%`, `?` and `#`, which have a meaning in a path (RFC 3986, section 2.2), so that
+/// a name stands in a path as it is. `BadName` answers any other text, `Memory` want of memory.
 pub fn name(alloc: Global, text: &str) -> Result<Name, NameFault>
     ensures ok { IfOk result (λ n. (n ≡ text.now) × IsName text.now) }
     ensures bad { (result ≡ Err NameFault.BadName) ↔ ¬ (IsName text.now) }
@@ -47,8 +48,9 @@ fn line_after(front: &[u8]) -> u32
     front.iter().filter(|byte| **byte == b'\n').count() as u32 + 1
 }
 
-/// The text that bytes are: at most 65,536 of them, in UTF-8 (Unicode, table 3-7). Where they are
-/// no UTF-8 the fault names the line of the first byte that no UTF-8 text has there.
+/// The text of an entry that bytes are: at most 65,536 of them, in UTF-8 (Unicode, table 3-7).
+/// `TooLong` answers more bytes, whatever they are; `NotUtf8` names the line, from 1, of the first
+/// byte that no UTF-8 text has at its place; `Memory` is want of memory.
 pub fn text(alloc: Global, bytes: &[u8]) -> Result<Text, TextFault>
     ensures ok { IfOk result (λ t. (t ≡ bytes.now) × IsUtf8 bytes.now) }
     ensures too_long { (result ≡ Err TextFault.TooLong) ↔ (65536 < length bytes.now) }

@@ -1,6 +1,6 @@
 //! Copies that equal their source.
 
-ghost use Rattle.std.specs.Prelude.{◌≡◌, IfOk};
+ghost use Rattle.std.specs.Prelude.{◌≡◌, IfOk, Ok};
 
 use crate::characters::Chars;
 use crate::conditions::{Cond, Conds, Value};
@@ -11,7 +11,8 @@ use crate::{Many, NoMemory};
 use sqlite_items::Boxed;
 use std::alloc::Global;
 
-/// A value of which a copy can be made. The copy equals its source.
+/// A value of which a copy can be made. The copy equals its source; the one refusal of `copy`, and
+/// of the calls over it, is want of memory.
 pub trait Copied: Drop {
     fn copy(&self, alloc: Global) -> Result<Self, NoMemory>
         ensures { IfOk result (λ copy. copy ≡ self.now) };
@@ -26,6 +27,50 @@ pub fn copy_all<T: Copied>(alloc: Global, parts: &[T]) -> Result<Many<T>, NoMemo
         copies.push(part.copy(alloc)?)?;
     }
     Ok(copies)
+}
+
+/// A copy of a value, where there is one.
+pub fn copy_if_any<T: Copied>(alloc: Global, value: &Option<T>) -> Result<Option<T>, NoMemory>
+    ensures { IfOk result (λ copy. copy ≡ value.now) }
+{
+    match value {
+        Some(value) => Ok(Some(value.copy(alloc)?)),
+        None => Ok(None),
+    }
+}
+
+/// Two values, where memory sufficed for both. A function that makes two trees joins them here, so
+/// that no tree is owned where an answer may be left early.
+pub fn both<A: Drop, B: Drop>(
+    first: Result<A, NoMemory>,
+    second: Result<B, NoMemory>,
+) -> Result<(A, B), NoMemory>
+    ensures { IfOk result (λ p. (first ≡ Ok p.0) × (second ≡ Ok p.1)) }
+{
+    let first = first?;
+    let second = second?;
+    Ok((first, second))
+}
+
+/// Copies of two values.
+pub fn copy_two<A: Copied, B: Copied>(alloc: Global, a: &A, b: &B) -> Result<(A, B), NoMemory>
+    ensures { IfOk result (λ p. p ≡ (a.now, b.now)) }
+{
+    both(a.copy(alloc), b.copy(alloc))
+}
+
+/// Copies of three values.
+pub fn copy_three<A: Copied, B: Copied, C: Copied>(
+    alloc: Global,
+    a: &A,
+    b: &B,
+    c: &C,
+) -> Result<(A, B, C), NoMemory>
+    ensures { IfOk result (λ t. t ≡ (a.now, b.now, c.now)) }
+{
+    let a = a.copy(alloc)?;
+    let (b, c) = copy_two(alloc, b, c)?;
+    Ok((a, b, c))
 }
 
 impl Copied for Name {
@@ -74,15 +119,16 @@ fn copy_cond(alloc: Global, cond: &Cond) -> Result<Cond, NoMemory>
     match cond {
         Cond::Always => Ok(Cond::Always),
         Cond::Never => Ok(Cond::Never),
-        Cond::Ext { name, needs } => Ok(Cond::Ext {
-            name: name.copy(alloc)?,
-            needs: Many::from_slice(alloc, needs.as_slice())?,
-        }),
-        Cond::Param { name, test, value } => Ok(Cond::Param {
-            name: name.copy(alloc)?,
-            test: *test,
-            value: value.copy(alloc)?,
-        }),
+        Cond::Ext { name, needs } => {
+            let needs = Many::from_slice(alloc, needs.as_slice());
+            let (name, needs) = both(name.copy(alloc), needs)?;
+            Ok(Cond::Ext { name, needs })
+        }
+        Cond::Param { name, test, value } => {
+            let (name, value) = copy_two(alloc, name, value)?;
+            let test = *test;
+            Ok(Cond::Param { name, test, value })
+        }
         Cond::All(parts) => Ok(Cond::All(copy_conds(alloc, parts.as_slice())?)),
         Cond::Any(parts) => Ok(Cond::Any(copy_conds(alloc, parts.as_slice())?)),
         Cond::One(parts) => Ok(Cond::One(copy_conds(alloc, parts.as_slice())?)),
@@ -129,13 +175,28 @@ fn copy_proof(alloc: Global, proof: &Proof) -> Result<Proof, NoMemory>
             at,
             below,
             from,
-        } => Ok(Proof::Cut {
-            place: *place,
-            at: *at,
-            below: Boxed::new(alloc, copy_proof(alloc, below.get())?)?,
-            from: Boxed::new(alloc, copy_proof(alloc, from.get())?)?,
-        }),
+        } => {
+            let (place, at) = (*place, *at);
+            let (below, from) = both(
+                copy_boxed_proof(alloc, below.get()),
+                copy_boxed_proof(alloc, from.get()),
+            )?;
+            Ok(Proof::Cut {
+                place,
+                at,
+                below,
+                from,
+            })
+        }
     }
+}
+
+// A copy in a box of its own.
+#[cycle(copied_proofs)]
+fn copy_boxed_proof(alloc: Global, proof: &Proof) -> Result<Boxed<Proof>, NoMemory>
+    ensures { IfOk result (λ copy. copy ≡ proof.now) }
+{
+    Boxed::new(alloc, copy_proof(alloc, proof)?)
 }
 
 #[cycle(copied_proofs)]
@@ -157,40 +218,44 @@ impl Copied for Proof {
 
 impl Copied for ExtSpace {
     fn copy(&self, alloc: Global) -> Result<ExtSpace, NoMemory> {
+        let versions = Many::from_slice(alloc, self.versions.as_slice());
+        let (versions, (name, needs)) = both(versions, copy_two(alloc, &self.name, &self.needs))?;
         Ok(ExtSpace {
-            name: self.name.copy(alloc)?,
-            versions: Many::from_slice(alloc, self.versions.as_slice())?,
-            needs: self.needs.copy(alloc)?,
+            name,
+            versions,
+            needs,
         })
     }
 }
 
 impl Copied for ParamSpace {
     fn copy(&self, alloc: Global) -> Result<ParamSpace, NoMemory> {
+        let ((name, domain), (defined, needs)) = both(
+            copy_two(alloc, &self.name, &self.domain),
+            copy_two(alloc, &self.defined, &self.needs),
+        )?;
         Ok(ParamSpace {
-            name: self.name.copy(alloc)?,
-            domain: self.domain.copy(alloc)?,
-            defined: self.defined.copy(alloc)?,
-            needs: self.needs.copy(alloc)?,
+            name,
+            domain,
+            defined,
+            needs,
         })
     }
 }
 
 impl Copied for Space {
     fn copy(&self, alloc: Global) -> Result<Space, NoMemory> {
-        Ok(Space {
-            extensions: copy_all(alloc, self.extensions.as_slice())?,
-            params: copy_all(alloc, self.params.as_slice())?,
-        })
+        let extensions = copy_all(alloc, self.extensions.as_slice());
+        let (extensions, params) = both(extensions, copy_all(alloc, self.params.as_slice()))?;
+        Ok(Space { extensions, params })
     }
 }
 
 impl Copied for Full {
     fn copy(&self, alloc: Global) -> Result<Full, NoMemory> {
-        Ok(Full {
-            extensions: Many::from_slice(alloc, self.extensions.as_slice())?,
-            params: copy_all(alloc, self.params.as_slice())?,
-        })
+        let extensions = Many::from_slice(alloc, self.extensions.as_slice());
+        let (extensions, params) = both(extensions, copy_all(alloc, self.params.as_slice()))?;
+        Ok(Full { extensions, params })
     }
 }
 

@@ -7,21 +7,23 @@ mod characters;
 mod conditions;
 mod copies;
 mod kinds;
+mod lines;
+mod lists;
 mod memory;
 mod names;
 mod outside;
 mod refutations;
 mod rows;
 mod spaces;
-#[cfg(test)]
-mod tests;
 mod versions;
 
 pub use accepted::{TEXT_LIMIT, name, text};
 pub use characters::Chars;
 pub use conditions::{Cond, Conds, Test, Value};
-pub use copies::{Copied, copy_all};
+pub use copies::{Copied, both, copy_all, copy_if_any, copy_three, copy_two};
 pub use kinds::Kind;
+pub use lines::{Lines, text_of_lines};
+pub use lists::{are_distinct, is_among};
 pub use memory::{MemorySink, MemorySource};
 pub use names::{Name, NameFault};
 pub use outside::{Failed, Sink, Source};

@@ -1,8 +1,8 @@
 //! A source and a sink in memory, which fail exactly at listed calls and past a room.
 
-ghost use Rattle.std.specs.Prelude.{◌≡◌, ◌↔◌, ◌≤◌, ◌<◌, ◌+◌, ◌⊎◌, [], length, IfOk, IsErr, Contains, Some};
+ghost use Rattle.std.specs.Prelude.{◌≡◌, ◌≤◌, length, IfOk, Some};
 ghost use Rattle.udb_base.specs.Faults.{HasCause, ReadTakes, WriteReceives};
-ghost use Rattle.udb_base.specs.Memory.{one_more};
+ghost use Rattle.udb_base.specs.Memory.{one_more, CountsFailures, FailsWhereListed, FailsWhereListedOrFull, IsNewSource, IsNewSink};
 
 use crate::NoMemory;
 use crate::outside::{Failed, Sink, Source};
@@ -31,9 +31,10 @@ impl Model for MemorySource {
 }
 
 impl MemorySource {
-    /// A source that gives these bytes and fails at these calls.
+    /// A source that gives these bytes and fails at these calls, counted from 1. The one refusal is
+    /// want of memory.
     pub fn new(alloc: Global, bytes: &[u8], fails: &[u64]) -> Result<MemorySource, NoMemory>
-        ensures { IfOk result (λ s. (s.left ≡ bytes.now) × (s.fails ≡ fails.now) × (s.calls ≡ 0) × (s.faults ≡ 0)) }
+        ensures { IfOk result (λ s. IsNewSource bytes.now fails.now s) }
     {
         Ok(MemorySource {
             bytes: Vec::from_slice(alloc, bytes)?,
@@ -61,8 +62,9 @@ impl Source for MemorySource {
         ensures within { IfOk result (λ n. n ≤ length into.new) }
         ensures bytes { ReadTakes (Some self.old.left) (Some self.new.left) result into.new }
         ensures cause { HasCause self.old.faults self.new.faults result }
-        ensures listed { IsErr result ↔ Contains self.old.fails (one_more self.old.calls) }
-        ensures next { (self.new.fails ≡ self.old.fails) × (self.new.calls ≡ one_more self.old.calls) }
+        ensures counted { CountsFailures self.old.faults self.new.faults result }
+        ensures listed { FailsWhereListed self.old result }
+        ensures calls { (self.new.fails ≡ self.old.fails) × (self.new.calls ≡ one_more self.old.calls) }
     {
         self.calls = self.calls.saturating_add(1);
         if self.fails.contains(&self.calls) {
@@ -100,9 +102,10 @@ impl Model for MemorySink {
 }
 
 impl MemorySink {
-    /// A sink with room for `room` bytes, which are taken at once, that fails at these calls.
+    /// A sink with room for `room` bytes, which are taken at once, that fails at these calls, counted
+    /// from 1. The one refusal is want of memory.
     pub fn new(alloc: Global, room: usize, fails: &[u64]) -> Result<MemorySink, NoMemory>
-        ensures { IfOk result (λ s. (s.written ≡ []) × (s.room ≡ room) × (s.fails ≡ fails.now) × (s.calls ≡ 0) × (s.faults ≡ 0)) }
+        ensures { IfOk result (λ s. IsNewSink room fails.now s) }
     {
         Ok(MemorySink {
             bytes: Vec::with_capacity(alloc, room)?,
@@ -136,8 +139,10 @@ impl Sink for MemorySink {
     fn write(&mut self, piece: &[u8]) -> Result<(), Failed>
         ensures bytes { WriteReceives (Some self.old.written) (Some self.new.written) result piece.now }
         ensures cause { HasCause self.old.faults self.new.faults result }
-        ensures listed { IsErr result ↔ (Contains self.old.fails (one_more self.old.calls) ⊎ (self.old.room < length self.old.written + length piece.now)) }
-        ensures next { (self.new.fails ≡ self.old.fails) × (self.new.calls ≡ one_more self.old.calls) × (self.new.room ≡ self.old.room) }
+        ensures counted { CountsFailures self.old.faults self.new.faults result }
+        ensures listed { FailsWhereListedOrFull self.old piece.now result }
+        ensures calls { (self.new.fails ≡ self.old.fails) × (self.new.calls ≡ one_more self.old.calls) }
+        ensures room { self.new.room ≡ self.old.room }
     {
         self.calls = self.calls.saturating_add(1);
         let past = self.room - self.bytes.len() < piece.len();
