@@ -13,10 +13,10 @@ use Rattle.udb_schema.specs.declared.words.Schema.{Schema}
 use Rattle.udb_schema.specs.declared.words.Word.{Word}
 use Rattle.udb_schema.specs.declared.validating.SchemaFault.{SchemaFault}
 use Rattle.udb_schema.specs.declared.validating.SchemaFault.TheVariants.{Memory, At}
-use Rattle.udb_schema.specs.Trees.{items_of, entries_of}
+use Rattle.yaml_spec.specs.Trees.{Layer, items_of, entries_of, items_layer, entries_layer}
+use Rattle.yaml_spec.proofs.TreeLaws.{list_items, map_items, map_entries, items_rolled, entries_rolled}
 use Rattle.udb_schema.specs.Meets.{meets}
 use Rattle.udb_schema.specs.Faults.{all_meet, for_items, for_key, first_failing, FirstFault, here, in_list, in_map, InItems, item, InEntries, entry}
-use Rattle.udb_schema.proofs.TreeLaws.{null_items, null_entries, flag_items, flag_entries, int_items, int_entries, text_items, text_entries, list_items, map_items, map_entries}
 use Rattle.udb_schema.proofs.MeetLemmas.{fault_refutes, one_refutes, leaf_met, fine_where_none, list_schemas, map_schemas}
 
 -- ---- what a fault comes from
@@ -187,6 +187,9 @@ at_node ss t None e k = k e
 in_leaf : (t : Tree) → items_of t ≡ None → entries_of t ≡ None → Finds t
 in_leaf t e g ss h = at_node ss t (first_failing ss t) refl (λ n. absurd (let m = leaf_met ss t e g n in cc))
 
+rolled_leaf : (o : Layer) → items_layer o ≡ None → entries_layer o ≡ None → Finds (roll-Tree o)
+rolled_leaf o e g = in_leaf (roll-Tree o) (items_rolled o ∙ e) (entries_rolled o ∙ g)
+
 in_items : (xs : List Tree) → Each Finds xs → Finds (tree.List xs)
 in_items xs e ss h = at_node ss (tree.List xs) (first_failing ss (tree.List xs)) refl (λ n. let f = find_item ss xs [] refl e (bad_children _ _ (fine_where_none ss (tree.List xs) n) (sym (list_schemas xs ss) ∙ h)) in (f.0, f.1, in_list n f.2))
 
@@ -197,10 +200,10 @@ abbrev FindsIn : Pair → Type 0
 FindsIn p = Finds p.value
 
 finds_layer : (y : Tree-F ((t : Tree) × Finds t) ((p : Pair) × FindsIn p)) → Finds (roll-Tree (map-Tree ((t : Tree) × Finds t) ((p : Pair) × FindsIn p) Tree Pair (λ e. e.0) (λ e. e.0) y))
-finds_layer Tree-F.Null = subst Finds (sym tree.rolls-Null) (in_leaf tree.Null null_items null_entries)
-finds_layer (Tree-F.Flag b) = subst Finds (sym (tree.rolls-Flag b)) (in_leaf (tree.Flag b) (flag_items b) (flag_entries b))
-finds_layer (Tree-F.Int z) = subst Finds (sym (tree.rolls-Int z)) (in_leaf (tree.Int z) (int_items z) (int_entries z))
-finds_layer (Tree-F.Text s) = subst Finds (sym (tree.rolls-Text s)) (in_leaf (tree.Text s) (text_items s) (text_entries s))
+finds_layer Tree-F.Null = rolled_leaf Tree-F.Null refl refl
+finds_layer (Tree-F.Flag b) = rolled_leaf (Tree-F.Flag b) refl refl
+finds_layer (Tree-F.Int z) = rolled_leaf (Tree-F.Int z) refl refl
+finds_layer (Tree-F.Text s) = rolled_leaf (Tree-F.Text s) refl refl
 finds_layer (Tree-F.List ys) = subst Finds (sym (tree.rolls-List (map (λ e. e.0) ys))) (in_items (map (λ e. e.0) ys) (each Finds ys))
 finds_layer (Tree-F.Map ys) = subst Finds (sym (tree.rolls-Map (map (λ e. e.0) ys))) (in_entries (map (λ e. e.0) ys) (each FindsIn ys))
 

@@ -20,10 +20,12 @@ use Rattle.udb_schema.specs.declared.words.Additional.TheOpen.{SchemaWord-F, Add
 use Rattle.udb_schema.specs.declared.words.Additional.TheViews.{roll-SchemaWord, roll-out-SchemaWord, roll-Additional, roll-out-Additional}
 use Rattle.std.specs.Borrow.{Bor}
 use Rattle.udb_schema.specs.declared.validating.SchemaFault.TheVariants.{At}
-use Rattle.udb_schema.specs.Trees.{Test, items_of, entries_of}
+use Rattle.yaml_spec.specs.Trees.{items_of, entries_of}
+use Rattle.yaml_spec.proofs.TreeLaws.{list_items, list_entries, map_items, map_entries}
+use Rattle.udb_schema.specs.Equality.{Test}
 use Rattle.udb_schema.specs.Meets.{Keys, Clause, meets, additional, property, named, met, met_by, allowed}
-use Rattle.udb_schema.specs.Faults.{place_of, word_of, Layer, for_items_layer, word_for_items, for_key_layer, word_for_key, counts_layer, counts_here, is_closed, for_others, with_key, fails, all_meet, for_items, for_key, failing, failing_of, failing_words, first_failing, earliest, earlier, behind, FirstFault, here, in_list, in_map, InItems, item, InEntries, entry}
-use Rattle.udb_schema.proofs.TreeLaws.{list_items, list_entries, map_items, map_entries}
+use Rattle.udb_schema.specs.Faults.{place_of, word_of, Layer, for_items_layer, word_for_items, for_key_layer, word_for_key, counts_layer, counts_here, is_closed, for_others, with_key, fails, all_meet, for_items, for_key, failing, failing_of, failing_words, first_failing, earliest, earlier, FirstFault, here, in_list, in_map, InItems, item, InEntries, entry}
+use Rattle.udb_schema.specs.Validating.{behind}
 use Rattle.udb_schema.proofs.WordLaws.{meets_law, clause-Items, clause-Properties, clause-AdditionalProperties, additional-Meets, closed-Closed, closed-Meets, others-Closed, others-Meets, earliest_more}
 
 -- ---- tests of lists

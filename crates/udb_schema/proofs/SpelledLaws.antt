@@ -1,30 +1,12 @@
--- One more part of what is read.
-use Rattle.std.proofs.Common.{◌≡◌, ℕ, List, [], ◌∷◌, ◌++◌, Option, Some, None, Result, Ok, Err, IfOk, refl, ap, sym, ◌∙◌, append_assoc, append-nil}
-use Rattle.std.specs.Option.{option_map, option_and_then}
+-- The answers of `from_json`, turned round.
+use Rattle.std.proofs.Common.{◌≡◌, ℕ, List, Some, None, Result, Ok, Err, IfOk, refl, ap, sym, ◌∙◌}
+use Rattle.std.specs.Option.{option_and_then}
 use Rattle.serde_json.specs.Data.{Data}
 use Rattle.serde_json.specs.Read.{read}
 use Rattle.udb_schema.specs.declared.words.Schema.{Schema}
 use Rattle.udb_schema.specs.declared.reading.SchemaTextFault.{SchemaTextFault}
 use Rattle.udb_schema.specs.declared.reading.SchemaTextFault.TheVariants.{Memory, Syntax, BadWord}
-use Rattle.udb_schema.specs.Spelled.{joined, schema_of, spelled}
-
--- the parts so far, with those that are left
-abbrev pub behind_parts : {A : Type 0} → List A → Option (List A) → Option (List A)
-behind_parts xs o = option_map (λ ys. xs ++ ys) o
-
-pub joined_more : {A : Type 0} (xs : List A) (y : A) (o : Option (List A)) → behind_parts (xs ++ y ∷ []) o ≡ behind_parts xs (joined (Some y) o)
-joined_more xs y None = refl
-joined_more xs y (Some ys) = ap Some (append_assoc xs (y ∷ []) ys)
-
-pub joined_done : {A : Type 0} (xs : List A) → behind_parts xs (Some []) ≡ Some xs
-joined_done xs = ap Some (append-nil xs)
-
-pub joined_nothing : {A : Type 0} (xs : List A) → behind_parts xs None ≡ None
-joined_nothing xs = refl
-
-pub ruleset joined_steps = (joined_more, joined_done, joined_nothing)
-
--- ---- the answers of `from_json`, turned round
+use Rattle.udb_schema.specs.Spelled.{schema_of, spelled}
 
 nothing : (text : List ℕ) → read text ≡ None → spelled text ≡ None
 nothing text h = ap (option_and_then schema_of) h

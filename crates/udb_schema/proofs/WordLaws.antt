@@ -13,7 +13,7 @@ use Rattle.udb_schema.specs.declared.words.Additional.TheVariants as a
 use Rattle.udb_schema.specs.declared.words.Additional.TheOpen.{SchemaWord-F, Additional-F}
 use Rattle.udb_schema.specs.declared.words.Additional.TheViews.{roll-SchemaWord, roll-out-SchemaWord, out-roll-SchemaWord, out-roll-Additional}
 use Rattle.udb_schema.specs.declared.words.Additional.TheFolds.{fold-SchemaWord, fold-SchemaProperty, fold-Additional, fold-roll-Schema, fold-roll-SchemaWord, fold-roll-SchemaProperty, fold-roll-Additional}
-use Rattle.udb_schema.specs.Trees.{Test}
+use Rattle.udb_schema.specs.Equality.{Test}
 use Rattle.udb_schema.specs.declared.words.Word.{Word}
 use Rattle.udb_schema.specs.Faults.{earlier, earliest, Layer, for_items_layer, word_for_items, for_key_layer, word_for_key, counts_layer, counts_here, is_closed, is_closed_layer, for_others, for_others_layer, with_key}
 use Rattle.udb_schema.specs.Meets.{Keys, Clause, additional_step, word_step, schema_step, property_step, meets, clause, additional, property, named, met}

@@ -1,7 +1,6 @@
--- The first failing place of a tree: a node before its children, children in order, and at a node the first failing
+-- Statement: the first failing place of a tree: a node before its children, children in order, and at a node the first failing
 -- word in the order of examination. Where a schema holds a word twice, several schemas may stand at one node.
 use Rattle.std.specs.Prelude.{◌≡◌, ℕ, ◌&&◌, Bool, true, false, not, nat_le, List, [], ◌∷◌, ◌++◌, length, map, filter, Option, None, Some, if◌then◌else◌}
-use Rattle.std.specs.Borrow.{Bor}
 use Rattle.std.specs.Fmt.{decimal}
 use Rattle.std.specs.Str.{bytes_eq}
 use Rattle.std.specs.List.{list_all, flat_map}
@@ -113,10 +112,6 @@ for_key_layer keys key _ = []
 unfoldable pub word_for_key : Keys → List ℕ → SchemaWord → List Schema
 word_for_key keys key w = for_key_layer keys key (out-SchemaWord w)
 
--- the schemas that references point to
-abbrev pub behind : List (Bor Schema) → List Schema
-behind ss = map (λ s. s.now) ss
-
 -- the schemas that stand at each item of a list, where these stand at the list
 abbrev pub for_items : List Schema → List Schema
 for_items ss = flat_map (λ s. flat_map word_for_items s.words) ss
@@ -170,3 +165,7 @@ mutual
   -- in the first entry of a map that fails; `ss` stand at the map
   pub data InEntries : List Schema → List Pair → List ℕ → Word → Type 0 where
     entry : {ss : List Schema} (before : List Pair) (p : Pair) (after : List Pair) {path : List ℕ} {w : Word} → list_all (λ q. all_meet (for_key q.key ss) q.value) before ≡ true → FirstFault (for_key p.key ss) p.value path w → InEntries ss (before ++ p ∷ after) (47 ∷ p.key ++ path) w
+
+-- the tree doesn't meet the schema, its first failing place is at the path, and the word fails there
+abbrev pub FailsAt : Schema → Tree → List ℕ → Word → Type 0
+FailsAt s t path w = (meets s t ≡ false) × FirstFault (s ∷ []) t path w

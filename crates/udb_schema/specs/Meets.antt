@@ -1,10 +1,11 @@
--- When a tree meets a schema, by cases on its words (JSON Schema 2020-12, validation 6 and core 10), on trees
+-- Statement: when a tree meets a schema, by cases on its words (JSON Schema 2020-12, validation 6 and core 10), on trees
 -- that have no fractions.
 use Rattle.std.specs.Prelude.{ℕ, ◌||◌, ◌==◌, Bool, true, false, not, is_some, nat_le, int_le, List, length, map, Option, None, Some, count_by}
 use Rattle.std.specs.Fmt.{char_count}
 use Rattle.std.specs.Str.{bytes_eq}
 use Rattle.std.specs.List.{list_all, list_any}
 use Rattle.yaml_spec.specs.declared.tree.Tree.{Tree}
+use Rattle.yaml_spec.specs.declared.tree.Pair.{Pair}
 use Rattle.udb_schema.specs.declared.words.TypeName.{TypeName}
 use Rattle.udb_schema.specs.declared.words.TypeName.TheVariants as type
 use Rattle.udb_schema.specs.declared.words.Schema.{Schema}
@@ -13,7 +14,10 @@ use Rattle.udb_schema.specs.declared.words.SchemaProperty.{SchemaProperty}
 use Rattle.udb_schema.specs.declared.words.Additional.{Additional}
 use Rattle.udb_schema.specs.declared.words.Additional.TheOpen.{SchemaWord-F, Additional-F, Schema-F, SchemaProperty-F}
 use Rattle.udb_schema.specs.declared.words.Additional.TheFolds.{fold-Schema, fold-SchemaWord, fold-Additional}
-use Rattle.udb_schema.specs.Trees.{Test, is_null, flag_of, int_of, text_of, items_of, entries_of, same, distinct, has_key}
+use Rattle.yaml_spec.specs.Line.{has_key}
+use Rattle.yaml_spec.specs.Trees.{is_null, flag_of, int_of, text_of, items_of, entries_of}
+use Rattle.udb_base.specs.Lists.{is_among, are_distinct}
+use Rattle.udb_schema.specs.Equality.{Test, same}
 
 -- A word about another type than the node's is met.
 abbrev pub met_by : {X : Type 0} → Option X → (X → Bool) → Bool
@@ -52,26 +56,53 @@ abbrev pub allowed : Option Test → Test
 allowed None t = false
 allowed (Some s) t = s t
 
+-- a map has each of the keys
+abbrev pub has_keys : List (List ℕ) → List Pair → Bool
+has_keys keys ps = list_all (λ key. has_key key ps) keys
+
+-- an entry's value meets the schema of each property with its key
+abbrev pub meets_properties : List (List ℕ × Test) → Pair → Bool
+meets_properties ps e = list_all (λ p. not (bytes_eq p.0 e.key) || p.1 e.value) ps
+
+-- an entry's key is named, or its value is allowed
+abbrev pub is_named_or_allowed : Keys → Option Test → Pair → Bool
+is_named_or_allowed named a e = named e.key || allowed a e.value
+
+abbrev pub unique_test : Bool → Test
+unique_test b t = met_by (items_of t) (λ xs. not b || are_distinct same xs)
+
+abbrev pub required_test : List (List ℕ) → Test
+required_test keys t = met_by (entries_of t) (has_keys keys)
+
+abbrev pub others_test : Keys → Option Test → Test
+others_test named a t = met_by (entries_of t) (list_all (is_named_or_allowed named a))
+
+abbrev pub properties_test : List (List ℕ × Test) → Test
+properties_test ps t = met_by (entries_of t) (list_all (meets_properties ps))
+
+abbrev pub items_test : Test → Test
+items_test s t = met_by (items_of t) (list_all s)
+
 abbrev pub additional_step : Additional-F (Option Test) Clause Test (List ℕ × Test) → Option Test
 additional_step Additional-F.Closed = None
 additional_step (Additional-F.Meets s) = Some s
 
 abbrev pub word_step : SchemaWord-F (Option Test) Clause Test (List ℕ × Test) → Clause
 word_step (SchemaWord-F.Type names) = plain (λ t. list_any (is_type t) names)
-word_step (SchemaWord-F.Enum xs) = plain (λ t. list_any (λ x. same x t) xs)
-word_step (SchemaWord-F.Const x) = plain (λ t. same x t)
+word_step (SchemaWord-F.Enum xs) = plain (λ t. is_among same t xs)
+word_step (SchemaWord-F.Const x) = plain (λ t. same t x)
 word_step (SchemaWord-F.Minimum n) = plain (λ t. met_by (int_of t) (λ z. int_le n z))
 word_step (SchemaWord-F.Maximum n) = plain (λ t. met_by (int_of t) (λ z. int_le z n))
 word_step (SchemaWord-F.MinLength n) = plain (λ t. met_by (text_of t) (λ s. nat_le n (char_count s)))
 word_step (SchemaWord-F.MinItems n) = plain (λ t. met_by (items_of t) (λ xs. nat_le n (length xs)))
 word_step (SchemaWord-F.MaxItems n) = plain (λ t. met_by (items_of t) (λ xs. nat_le (length xs) n))
-word_step (SchemaWord-F.UniqueItems b) = plain (λ t. met_by (items_of t) (λ xs. not b || distinct xs))
+word_step (SchemaWord-F.UniqueItems b) = plain (unique_test b)
 word_step (SchemaWord-F.MinProperties n) = plain (λ t. met_by (entries_of t) (λ ps. nat_le n (length ps)))
 word_step (SchemaWord-F.MaxProperties n) = plain (λ t. met_by (entries_of t) (λ ps. nat_le (length ps) n))
-word_step (SchemaWord-F.Required keys) = plain (λ t. met_by (entries_of t) (λ ps. list_all (has_key ps) keys))
-word_step (SchemaWord-F.AdditionalProperties a) = record { names = no_keys; test = λ named t. met_by (entries_of t) (list_all (λ e. named e.key || allowed a e.value)) }
-word_step (SchemaWord-F.Properties ps) = record { names = has_property ps; test = λ named t. met_by (entries_of t) (list_all (λ e. list_all (λ p. not (bytes_eq p.0 e.key) || p.1 e.value) ps)) }
-word_step (SchemaWord-F.Items s) = plain (λ t. met_by (items_of t) (list_all s))
+word_step (SchemaWord-F.Required keys) = plain (required_test keys)
+word_step (SchemaWord-F.AdditionalProperties a) = record { names = no_keys; test = λ named. others_test named a }
+word_step (SchemaWord-F.Properties ps) = record { names = has_property ps; test = λ named. properties_test ps }
+word_step (SchemaWord-F.Items s) = plain (items_test s)
 word_step (SchemaWord-F.AllOf ss) = plain (λ t. list_all (λ s. s t) ss)
 word_step (SchemaWord-F.AnyOf ss) = plain (λ t. list_any (λ s. s t) ss)
 word_step (SchemaWord-F.OneOf ss) = plain (λ t. count_by (λ s. s t) ss == 1)
@@ -111,3 +142,7 @@ named ws = named_in (map clause ws)
 -- the tree meets a word of a schema that names these keys
 abbrev pub met : Keys → SchemaWord → Tree → Bool
 met keys w t = (clause w).test keys t
+
+-- what `additionalProperties` says of a tree, among these words of its schema
+abbrev pub meets_others : List SchemaWord → Additional → Test
+meets_others ws a = others_test (named ws) (additional a)

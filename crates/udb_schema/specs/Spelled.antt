@@ -1,13 +1,14 @@
--- The schema that a JSON value spells.
-use Rattle.std.specs.Prelude.{ℕ, ℤ, ◌&&◌, Bool, true, not, List, [], ◌∷◌, codes, Option, None, Some, option_map, option_and_then, if◌then◌else◌}
+-- Statement: the schema that a JSON value spells.
+use Rattle.std.specs.Prelude.{◌≡◌, ℕ, ℤ, Bool, List, [], ◌∷◌, codes, Option, None, Some, option_map, option_and_then, if◌then◌else◌}
 use Rattle.std.specs.Str.{bytes_eq}
-use Rattle.std.specs.List.{list_any}
 use Rattle.serde_json.specs.Data.{Data, null, boolean, number, string, array, object, Items, no_items, item, Members, no_members, member}
 use Rattle.serde_json.specs.Read.{read}
 use Rattle.serde_json.specs.Find.{as_bool, as_number, as_str, as_integer, as_u64}
+use Rattle.udb_base.specs.Lists.{one, one_more_part, each, are_distinct}
 use Rattle.yaml_spec.specs.declared.tree.Tree.{Tree}
 use Rattle.yaml_spec.specs.declared.tree.Tree.TheVariants as tree
 use Rattle.yaml_spec.specs.declared.tree.Pair.{Pair}
+use Rattle.yaml_spec.specs.Line.{pair}
 use Rattle.udb_schema.specs.declared.words.TypeName.{TypeName}
 use Rattle.udb_schema.specs.declared.words.TypeName.TheVariants as type
 use Rattle.udb_schema.specs.declared.words.Word.{Word}
@@ -21,25 +22,17 @@ use Rattle.udb_schema.specs.declared.words.Additional.TheVariants as a
 
 -- ---- parts
 
--- one more part, where both are there
-abbrev pub joined : {A : Type 0} → Option A → Option (List A) → Option (List A)
-joined x xs = option_and_then (λ y. option_map (λ ys. y ∷ ys) xs) x
-
--- each item, where each is one
-abbrev pub each : {A : Type 0} → (Data → Option A) → Items → Option (List A)
-each f no_items = Some []
-each f (item d ds) = joined (f d) (each f ds)
-
-abbrev pub is_among : List ℕ → List (List ℕ) → Bool
-is_among s ss = list_any (λ t. bytes_eq t s) ss
-
-abbrev pub are_distinct : List (List ℕ) → Bool
-are_distinct [] = true
-are_distinct (s ∷ ss) = not (is_among s ss) && are_distinct ss
+-- the value of each item, where each has one
+abbrev pub each_item : {A : Type 0} → (Data → Option A) → Items → Option (List A)
+each_item f no_items = Some []
+each_item f (item d ds) = one_more_part (f d) (each_item f ds)
 
 -- texts, where they are distinct
 abbrev pub if_distinct : List (List ℕ) → Option (List (List ℕ))
-if_distinct ss = if are_distinct ss then Some ss else None
+if_distinct ss = if are_distinct bytes_eq ss then Some ss else None
+
+abbrev pub distinct_texts : Items → Option (List (List ℕ))
+distinct_texts ds = option_and_then if_distinct (each_item as_str ds)
 
 -- a list, where it isn't empty
 abbrev pub if_any : {A : Type 0} → List A → Option (List A)
@@ -48,7 +41,7 @@ if_any (x ∷ xs) = Some (x ∷ xs)
 
 -- distinct texts in an array
 abbrev pub keys : Data → Option (List (List ℕ))
-keys (array ds) = option_and_then if_distinct (each as_str ds)
+keys (array ds) = distinct_texts ds
 keys null = None
 keys (boolean b) = None
 keys (number n) = None
@@ -75,14 +68,14 @@ type_name s =
     if bytes_eq s (codes "array") then Some type.List else
     if bytes_eq s (codes "object") then Some type.Map else None
 
-abbrev pub names_of : List (List ℕ) → Option (List TypeName)
-names_of [] = Some []
-names_of (s ∷ ss) = joined (type_name s) (names_of ss)
+-- distinct names in an array
+abbrev pub distinct_names : Items → Option (List TypeName)
+distinct_names ds = option_and_then (each type_name) (distinct_texts ds)
 
 -- a name, or an array of distinct names that isn't empty
 abbrev pub types : Data → Option (List TypeName)
-types (string s) = names_of (s ∷ [])
-types (array ds) = option_and_then if_any (option_and_then names_of (option_and_then if_distinct (each as_str ds)))
+types (string s) = one (type_name s)
+types (array ds) = option_and_then if_any (distinct_names ds)
 types null = None
 types (boolean b) = None
 types (number n) = None
@@ -90,8 +83,8 @@ types (object ms) = None
 
 -- ---- trees
 
+-- A number with a fraction or an exponent, or out of the range of trees, spells no tree.
 abbrev mutual
-  -- A number with a fraction or an exponent, or out of the range of trees, spells no tree.
   pub tree_of : Data → Option Tree
   tree_of null = Some tree.Null
   tree_of (boolean b) = Some (tree.Flag b)
@@ -102,11 +95,11 @@ abbrev mutual
 
   pub trees_of : Items → Option (List Tree)
   trees_of no_items = Some []
-  trees_of (item d ds) = joined (tree_of d) (trees_of ds)
+  trees_of (item d ds) = one_more_part (tree_of d) (trees_of ds)
 
   pub pairs_of : Members → Option (List Pair)
   pairs_of no_members = Some []
-  pairs_of (member k d ms) = joined (option_map (λ t. record { key = k; value = t }) (tree_of d)) (pairs_of ms)
+  pairs_of (member k d ms) = one_more_part (option_map (pair k) (tree_of d)) (pairs_of ms)
 
 abbrev pub tree_list : Data → Option (List Tree)
 tree_list (array ds) = trees_of ds
@@ -172,6 +165,9 @@ operand word.AnyOf d s ss ps = option_map w.AnyOf (option_and_then if_any ss)
 operand word.OneOf d s ss ps = option_map w.OneOf (option_and_then if_any ss)
 operand word.Not d s ss ps = option_map w.Not s
 
+abbrev pub property : List ℕ → Schema → SchemaProperty
+property k s = record { key = k; schema = s }
+
 abbrev pub schema_with : List SchemaWord → Schema
 schema_with ws = record { words = ws }
 
@@ -187,7 +183,7 @@ abbrev mutual
 
   pub words_of : Members → Option (List SchemaWord)
   words_of no_members = Some []
-  words_of (member k d ms) = joined (option_and_then (λ v. operand v d (schema_of d) (schema_list d) (property_list d)) (word_named k)) (words_of ms)
+  words_of (member k d ms) = one_more_part (option_and_then (λ v. operand v d (schema_of d) (schema_list d) (property_list d)) (word_named k)) (words_of ms)
 
   pub schema_list : Data → Option (List Schema)
   schema_list (array ds) = schemas_of ds
@@ -199,7 +195,7 @@ abbrev mutual
 
   pub schemas_of : Items → Option (List Schema)
   schemas_of no_items = Some []
-  schemas_of (item d ds) = joined (schema_of d) (schemas_of ds)
+  schemas_of (item d ds) = one_more_part (schema_of d) (schemas_of ds)
 
   pub property_list : Data → Option (List SchemaProperty)
   property_list (object ms) = properties_of ms
@@ -211,8 +207,12 @@ abbrev mutual
 
   pub properties_of : Members → Option (List SchemaProperty)
   properties_of no_members = Some []
-  properties_of (member k d ms) = joined (option_map (λ s. record { key = k; schema = s }) (schema_of d)) (properties_of ms)
+  properties_of (member k d ms) = one_more_part (option_map (property k) (schema_of d)) (properties_of ms)
 
 -- the schema that a text spells
 abbrev pub spelled : List ℕ → Option Schema
 spelled text = option_and_then schema_of (read text)
+
+-- the text is a JSON value that is no schema
+abbrev pub IsNoSchema : List ℕ → Type 0
+IsNoSchema text = (d : Data) × (read text ≡ Some d) × (schema_of d ≡ None)

@@ -5,9 +5,6 @@
 mod equality;
 mod meeting;
 mod reading;
-#[cfg(test)]
-mod tests;
-mod trees;
 mod validating;
 mod words;
 

@@ -1,14 +1,13 @@
 //! Whether a tree meets a schema.
 
-ghost use Rattle.std.specs.Prelude.{◌≡◌, ◌==◌, ◌&&◌, ◌||◌, not, map, length, nat_le, int_le, count_by};
+ghost use Rattle.std.specs.Prelude.{◌≡◌, ◌==◌, map, length, nat_le, int_le, count_by};
 ghost use Rattle.std.specs.Fmt.{char_count, is_char_start};
 ghost use Rattle.std.specs.List.{list_all, list_any};
-ghost use Rattle.std.specs.Str.{bytes_eq};
-ghost use Rattle.udb_schema.specs.Trees as trees;
+ghost use Rattle.yaml_spec.specs.Line.{has_key};
+ghost use Rattle.yaml_spec.specs.Trees as trees;
 ghost use Rattle.udb_schema.specs.Meets as spec;
 
-use crate::equality::{any_same, distinct, same};
-use crate::trees::{entries_of, flag_of, int_of, is_null, items_of, text_of};
+use crate::equality::{are_distinct, is_among, same};
 use crate::words::{Additional, Schema, SchemaProperty, SchemaWord, TypeName};
 use udb_base::Chars;
 use yaml_spec::{Pair, Tree};
@@ -17,43 +16,32 @@ fn is_type(tree: &Tree, name: TypeName) -> bool
     ensures { result ≡ spec.is_type tree.now name }
 {
     match name {
-        TypeName::Null => is_null(tree),
-        TypeName::Boolean => flag_of(tree).is_some(),
-        TypeName::Integer => int_of(tree).is_some(),
-        TypeName::Number => int_of(tree).is_some(),
-        TypeName::Text => text_of(tree).is_some(),
-        TypeName::List => items_of(tree).is_some(),
-        TypeName::Map => entries_of(tree).is_some(),
+        TypeName::Null => tree.is_null(),
+        TypeName::Boolean => tree.as_flag().is_some(),
+        TypeName::Integer => tree.as_int().is_some(),
+        TypeName::Number => tree.as_int().is_some(),
+        TypeName::Text => tree.as_text().is_some(),
+        TypeName::List => tree.as_list().is_some(),
+        TypeName::Map => tree.as_map().is_some(),
     }
 }
 
-fn has_type(names: &[TypeName], tree: &Tree) -> bool
+fn has_type(tree: &Tree, names: &[TypeName]) -> bool
     ensures { result ≡ list_any (spec.is_type tree.now) names.now }
 {
-    for name in names {
-        if is_type(tree, *name) {
-            return true;
-        }
-    }
-    false
+    names.iter().any(|name| is_type(tree, *name))
 }
 
 fn is_at_least(tree: &Tree, low: i128) -> bool
     ensures { result ≡ spec.met_by (trees.int_of tree.now) (λ z. int_le low z) }
 {
-    match int_of(tree) {
-        Some(number) => low <= number,
-        None => true,
-    }
+    tree.as_int().is_none_or(|number| low <= number)
 }
 
 fn is_at_most(tree: &Tree, high: i128) -> bool
     ensures { result ≡ spec.met_by (trees.int_of tree.now) (λ z. int_le z high) }
 {
-    match int_of(tree) {
-        Some(number) => number <= high,
-        None => true,
-    }
+    tree.as_int().is_none_or(|number| number <= high)
 }
 
 /// Whether a byte of a text is the first of a character.
@@ -64,75 +52,57 @@ fn begins_character(byte: u8) -> bool
 }
 
 /// How many characters the bytes of a text make.
-#[tactic(auto, using(crate::proofs::TreeLaws::characters))]
+#[tactic(auto, using(crate::proofs::TreeLaws::counted))]
 fn characters(bytes: &[u8]) -> usize
     ensures { result ≡ char_count bytes.now }
 {
-    let mut count = 0;
-    for byte in bytes {
-        if begins_character(*byte) {
-            count += 1;
-        }
-    }
-    count
+    bytes.iter().filter(|byte| begins_character(**byte)).count()
 }
 
 fn is_long_enough(tree: &Tree, least: u64) -> bool
     ensures { result ≡ spec.met_by (trees.text_of tree.now) (λ s. nat_le least (char_count s)) }
 {
-    match text_of(tree) {
-        Some(text) => least <= characters(text.as_bytes()) as u64,
-        None => true,
-    }
+    tree.as_text()
+        .is_none_or(|text| least <= characters(text.as_bytes()) as u64)
 }
 
 fn has_items(tree: &Tree, least: u64) -> bool
     ensures { result ≡ spec.met_by (trees.items_of tree.now) (λ xs. nat_le least (length xs)) }
 {
-    match items_of(tree) {
-        Some(items) => least <= items.len() as u64,
-        None => true,
-    }
+    tree.as_list()
+        .is_none_or(|items| least <= items.len() as u64)
 }
 
 fn has_no_more_items(tree: &Tree, most: u64) -> bool
     ensures { result ≡ spec.met_by (trees.items_of tree.now) (λ xs. nat_le (length xs) most) }
 {
-    match items_of(tree) {
-        Some(items) => items.len() as u64 <= most,
-        None => true,
-    }
+    tree.as_list()
+        .is_none_or(|items| items.len() as u64 <= most)
 }
 
 fn has_distinct_items(tree: &Tree, asked: bool) -> bool
-    ensures { result ≡ spec.met_by (trees.items_of tree.now) (λ xs. not asked || trees.distinct xs) }
+    ensures { result ≡ spec.unique_test asked tree.now }
 {
-    match items_of(tree) {
-        Some(items) => !asked || distinct(items),
-        None => true,
-    }
+    tree.as_list()
+        .is_none_or(|items| !asked || are_distinct(items))
 }
 
 fn has_entries(tree: &Tree, least: u64) -> bool
     ensures { result ≡ spec.met_by (trees.entries_of tree.now) (λ ps. nat_le least (length ps)) }
 {
-    match entries_of(tree) {
-        Some(entries) => least <= entries.len() as u64,
-        None => true,
-    }
+    tree.as_map()
+        .is_none_or(|entries| least <= entries.len() as u64)
 }
 
 fn has_no_more_entries(tree: &Tree, most: u64) -> bool
     ensures { result ≡ spec.met_by (trees.entries_of tree.now) (λ ps. nat_le (length ps) most) }
 {
-    match entries_of(tree) {
-        Some(entries) => entries.len() as u64 <= most,
-        None => true,
-    }
+    tree.as_map()
+        .is_none_or(|entries| entries.len() as u64 <= most)
 }
 
-fn has_key(entries: &[Pair], key: &str) -> bool
-    ensures { result ≡ trees.has_key entries.now key.now }
+fn is_key(entries: &[Pair], key: &str) -> bool
+    ensures { result ≡ has_key key.now entries.now }
 {
     for entry in entries {
         if entry.key.as_str() == key {
@@ -143,23 +113,16 @@ fn has_key(entries: &[Pair], key: &str) -> bool
 }
 
 fn has_each_key(entries: &[Pair], keys: &[Chars]) -> bool
-    ensures { result ≡ list_all (trees.has_key entries.now) keys.now }
+    ensures { result ≡ spec.has_keys keys.now entries.now }
 {
-    for key in keys {
-        if !has_key(entries, key.as_str()) {
-            return false;
-        }
-    }
-    true
+    keys.iter().all(|key| is_key(entries, key.as_str()))
 }
 
 fn has_required(tree: &Tree, keys: &[Chars]) -> bool
-    ensures { result ≡ spec.met_by (trees.entries_of tree.now) (λ ps. list_all (trees.has_key ps) keys.now) }
+    ensures { result ≡ spec.required_test keys.now tree.now }
 {
-    match entries_of(tree) {
-        Some(entries) => has_each_key(entries, keys),
-        None => true,
-    }
+    tree.as_map()
+        .is_none_or(|entries| has_each_key(entries, keys))
 }
 
 /// Whether one of the properties has the key.
@@ -198,9 +161,9 @@ pub fn is_named(words: &[SchemaWord], key: &str) -> bool
 
 #[cycle(meeting)]
 fn items_meet(schema: &Schema, tree: &Tree) -> bool
-    ensures { result ≡ spec.met_by (trees.items_of tree.now) (list_all (spec.meets schema.now)) }
+    ensures { result ≡ spec.items_test (spec.meets schema.now) tree.now }
 {
-    let Some(items) = items_of(tree) else {
+    let Some(items) = tree.as_list() else {
         return true;
     };
     for item in items {
@@ -213,7 +176,7 @@ fn items_meet(schema: &Schema, tree: &Tree) -> bool
 
 #[cycle(meeting)]
 fn value_meets(properties: &[SchemaProperty], entry: &Pair) -> bool
-    ensures { result ≡ list_all (λ p. not (bytes_eq p.0 entry.now.key) || p.1 entry.now.value) (map spec.property properties.now) }
+    ensures { result ≡ spec.meets_properties (map spec.property properties.now) entry.now }
 {
     for property in properties {
         if property.key.as_str() == entry.key.as_str() && !meets(&property.schema, &entry.value) {
@@ -225,9 +188,9 @@ fn value_meets(properties: &[SchemaProperty], entry: &Pair) -> bool
 
 #[cycle(meeting)]
 fn properties_meet(properties: &[SchemaProperty], tree: &Tree) -> bool
-    ensures { result ≡ spec.met_by (trees.entries_of tree.now) (list_all (λ e. list_all (λ p. not (bytes_eq p.0 e.key) || p.1 e.value) (map spec.property properties.now))) }
+    ensures { result ≡ spec.properties_test (map spec.property properties.now) tree.now }
 {
-    let Some(entries) = entries_of(tree) else {
+    let Some(entries) = tree.as_map() else {
         return true;
     };
     for entry in entries {
@@ -251,9 +214,9 @@ fn is_allowed(additional: &Additional, tree: &Tree) -> bool
 
 #[cycle(meeting)]
 fn others_allowed(additional: &Additional, words: &[SchemaWord], tree: &Tree) -> bool
-    ensures { result ≡ spec.met_by (trees.entries_of tree.now) (list_all (λ e. spec.named words.now e.key || spec.allowed (spec.additional additional.now) e.value)) }
+    ensures { result ≡ spec.meets_others words.now additional.now tree.now }
 {
-    let Some(entries) = entries_of(tree) else {
+    let Some(entries) = tree.as_map() else {
         return true;
     };
     for entry in entries {
@@ -308,9 +271,9 @@ pub fn word_is_met(word: &SchemaWord, words: &[SchemaWord], tree: &Tree) -> bool
     ensures { result ≡ spec.met (spec.named words.now) word.now tree.now }
 {
     match word {
-        SchemaWord::Type(names) => has_type(names.as_slice(), tree),
-        SchemaWord::Enum(values) => any_same(values.as_slice(), tree),
-        SchemaWord::Const(value) => same(value, tree),
+        SchemaWord::Type(names) => has_type(tree, names.as_slice()),
+        SchemaWord::Enum(values) => is_among(tree, values.as_slice()),
+        SchemaWord::Const(value) => same(tree, value),
         SchemaWord::Minimum(low) => is_at_least(tree, *low),
         SchemaWord::Maximum(high) => is_at_most(tree, *high),
         SchemaWord::MinLength(least) => is_long_enough(tree, *least),

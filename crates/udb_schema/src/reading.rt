@@ -1,21 +1,25 @@
 //! Schemas from JSON.
 
-ghost use Rattle.std.specs.Prelude.{◌≡◌, ◌≢◌, if◌then◌else◌, Err, List, [], ◌∷◌, ℕ, IfOk, IfErr, OnErr, None, Some, option_map, option_and_then, string_bytes, map};
-ghost use Rattle.serde_json.specs.Data.{Data};
+ghost use Rattle.std.specs.Prelude.{◌≡◌, ◌≢◌, if◌then◌else◌, Ok, Err, Option, IfOk, IfErr, OnErr, None, Some, option_map, option_and_then, string_bytes, map};
 ghost use Rattle.serde_json.specs.Read.{read};
 ghost use Rattle.serde_json.specs.View.{view, items_view, members_view};
 ghost use Rattle.serde_json.specs.Find.{as_str};
+ghost use Rattle.udb_base.specs.Lists.{one, each};
+ghost use Rattle.udb_schema.specs.declared.words.Schema.{Schema};
+ghost use Rattle.yaml_spec.specs.Line as line;
 ghost use Rattle.udb_schema.specs.Spelled as spec;
-ghost use Rattle.udb_schema.specs.declared.words.SchemaWord.TheVariants as word;
-ghost use Rattle.udb_schema.specs.declared.words.Additional.TheVariants as additional;
+ghost use Rattle.udb_schema.specs.Reading.{IsMade, Answers, additional_word, some_schemas, word_with, word_under};
+ghost use Rattle.udb_schema.specs.declared.words.SchemaWord.TheVariants as w;
+ghost use Rattle.udb_schema.specs.declared.words.Additional.TheVariants as a;
+ghost use Rattle.udb_schema.specs.declared.reading.SchemaTextFault.TheVariants as fault;
 
 use crate::words::{
     Additional, Names, Schema, SchemaProperties, SchemaProperty, SchemaWord, SchemaWords, Schemas,
     TypeName, TypeNames, Word,
 };
 use serde_json::{Map, Value};
-use std::alloc::{AllocError, Global};
-use udb_base::{Chars, Many, NoMemory};
+use std::alloc::Global;
+use udb_base::{Chars, Many, NoMemory, are_distinct, both};
 use yaml_spec::{Pair, Pairs, Tree, Trees};
 
 /// Why a text is no schema.
@@ -28,17 +32,6 @@ pub enum SchemaTextFault {
     /// The value is no schema: it, or a value where a schema has to stand, is no object, uses a word
     /// that isn't one of `Word`, or has a word with a wrong operand.
     BadWord,
-}
-
-impl From<AllocError> for SchemaTextFault {
-    ghost use Rattle.std.specs.Prelude.{◌≡◌};
-    ghost use Rattle.udb_schema.specs.declared.reading.SchemaTextFault.TheVariants.{Memory};
-
-    ghost from_gives = { λ _ e. e ≡ Memory };
-
-    fn from(_: AllocError) -> SchemaTextFault {
-        SchemaTextFault::Memory
-    }
 }
 
 // ---- types
@@ -58,33 +51,10 @@ fn type_name(text: &str) -> Option<TypeName>
     }
 }
 
-/// Whether one of the texts equals a text.
-fn is_among(text: &str, others: &[Chars]) -> bool
-    ensures { result ≡ spec.is_among text.now others.now }
-{
-    for other in others {
-        if other.as_str() == text {
-            return true;
-        }
-    }
-    false
-}
-
-fn are_distinct(texts: &[Chars]) -> bool
-    ensures { result ≡ spec.are_distinct texts.now }
-{
-    for (place, text) in texts.iter().enumerate() {
-        if is_among(text.as_str(), &texts[place + 1..]) {
-            return false;
-        }
-    }
-    true
-}
-
 /// Texts in an array.
-#[tactic(auto, using(crate::proofs::SpelledLaws::joined_steps))]
+#[tactic(auto, using(udb_base::specs::Lists::part_steps))]
 fn texts(alloc: Global, values: &[Value]) -> Result<Option<Names>, NoMemory>
-    ensures { IfOk result (λ o. o ≡ spec.each as_str (items_view values.now)) }
+    ensures { IfOk result (λ o. o ≡ spec.each_item as_str (items_view values.now)) }
 {
     let mut texts = Many::new(alloc);
     for value in values {
@@ -98,23 +68,15 @@ fn texts(alloc: Global, values: &[Value]) -> Result<Option<Names>, NoMemory>
 
 /// Distinct texts in an array.
 fn distinct_texts(alloc: Global, values: &[Value]) -> Result<Option<Names>, NoMemory>
-    ensures { IfOk result (λ o. o ≡ option_and_then spec.if_distinct (spec.each as_str (items_view values.now))) }
+    ensures { IfOk result (λ o. o ≡ spec.distinct_texts (items_view values.now)) }
 {
-    match texts(alloc, values)? {
-        Some(texts) => {
-            if are_distinct(texts.as_slice()) {
-                Ok(Some(texts))
-            } else {
-                Ok(None)
-            }
-        }
-        None => Ok(None),
-    }
+    let texts = texts(alloc, values)?;
+    Ok(texts.filter(|texts| are_distinct(texts.as_slice())))
 }
 
-#[tactic(auto, using(crate::proofs::SpelledLaws::joined_steps))]
+#[tactic(auto, using(udb_base::specs::Lists::part_steps))]
 fn names(alloc: Global, texts: &[Chars]) -> Result<Option<TypeNames>, NoMemory>
-    ensures { IfOk result (λ o. o ≡ spec.names_of texts.now) }
+    ensures { IfOk result (λ o. o ≡ each spec.type_name texts.now) }
 {
     let mut names = Many::new(alloc);
     for text in texts {
@@ -126,25 +88,19 @@ fn names(alloc: Global, texts: &[Chars]) -> Result<Option<TypeNames>, NoMemory>
     Ok(Some(names))
 }
 
-fn name_alone(alloc: Global, text: &str) -> Result<Option<TypeNames>, NoMemory>
-    ensures { IfOk result (λ o. o ≡ spec.names_of (text.now ∷ [])) }
+fn one_name(alloc: Global, text: &str) -> Result<Option<TypeNames>, NoMemory>
+    ensures { IfOk result (λ o. o ≡ one (spec.type_name text.now)) }
 {
-    match type_name(text) {
-        Some(name) => Ok(Some(one_name(alloc, name)?)),
-        None => Ok(None),
-    }
-}
-
-fn one_name(alloc: Global, name: TypeName) -> Result<TypeNames, NoMemory>
-    ensures { IfOk result (λ names. names ≡ name ∷ []) }
-{
+    let Some(name) = type_name(text) else {
+        return Ok(None);
+    };
     let mut names = Many::new(alloc);
     names.push(name)?;
-    Ok(names)
+    Ok(Some(names))
 }
 
 fn names_in(alloc: Global, values: &[Value]) -> Result<Option<TypeNames>, NoMemory>
-    ensures { IfOk result (λ o. o ≡ option_and_then spec.names_of (option_and_then spec.if_distinct (spec.each as_str (items_view values.now)))) }
+    ensures { IfOk result (λ o. o ≡ spec.distinct_names (items_view values.now)) }
 {
     match distinct_texts(alloc, values)? {
         Some(texts) => names(alloc, texts.as_slice()),
@@ -155,17 +111,14 @@ fn names_in(alloc: Global, values: &[Value]) -> Result<Option<TypeNames>, NoMemo
 fn if_any<T: Drop>(items: Option<Many<T>>) -> Option<Many<T>>
     ensures { result ≡ option_and_then spec.if_any items }
 {
-    match items {
-        Some(items) => { if items.is_empty() { None } else { Some(items) } }
-        None => None,
-    }
+    items.filter(|items| !items.is_empty())
 }
 
 fn types(alloc: Global, value: &Value) -> Result<Option<TypeNames>, NoMemory>
     ensures { IfOk result (λ o. o ≡ spec.types (view value.now)) }
 {
     match value {
-        Value::String(text) => name_alone(alloc, text.as_str()),
+        Value::String(text) => one_name(alloc, text.as_str()),
         Value::Array(values) => Ok(if_any(names_in(alloc, values.as_slice())?)),
         _ => Ok(None),
     }
@@ -200,7 +153,7 @@ fn count(value: &Value) -> Option<u64>
 // ---- trees
 
 #[cycle(trees)]
-pub fn tree(alloc: Global, value: &Value) -> Result<Option<Tree>, NoMemory>
+fn tree(alloc: Global, value: &Value) -> Result<Option<Tree>, NoMemory>
     ensures { IfOk result (λ o. o ≡ spec.tree_of (view value.now)) }
 {
     match value {
@@ -214,7 +167,7 @@ pub fn tree(alloc: Global, value: &Value) -> Result<Option<Tree>, NoMemory>
 }
 
 #[cycle(trees)]
-#[tactic(auto, using(crate::proofs::SpelledLaws::joined_steps))]
+#[tactic(auto, using(udb_base::specs::Lists::part_steps))]
 fn trees(alloc: Global, values: &[Value]) -> Result<Option<Trees>, NoMemory>
     ensures { IfOk result (λ o. o ≡ spec.trees_of (items_view values.now)) }
 {
@@ -228,27 +181,26 @@ fn trees(alloc: Global, values: &[Value]) -> Result<Option<Trees>, NoMemory>
     Ok(Some(trees))
 }
 
-#[cycle(trees)]
-fn pair(alloc: Global, key: &str, value: &Value) -> Result<Option<Pair>, NoMemory>
-    ensures { IfOk result (λ o. o ≡ option_map (λ t. record { key = key.now; value = t }) (spec.tree_of (view value.now))) }
+/// The entry of a key and a value, where the value is there.
+fn pair(
+    alloc: Global,
+    key: &str,
+    value: Result<Option<Tree>, NoMemory>,
+) -> Result<Option<Pair>, NoMemory>
+    ensures { IfOk result (λ o. IsMade (line.pair key.now) value o) }
 {
-    match tree(alloc, value)? {
-        Some(value) => Ok(Some(Pair {
-            key: Chars::of(alloc, key)?,
-            value,
-        })),
-        None => Ok(None),
-    }
+    let (value, key) = both(value, Chars::of(alloc, key))?;
+    Ok(value.map(|value| Pair { key, value }))
 }
 
 #[cycle(trees)]
-#[tactic(auto, using(crate::proofs::SpelledLaws::joined_steps))]
+#[tactic(auto, using(udb_base::specs::Lists::part_steps))]
 fn pairs(alloc: Global, members: &Map<String, Value>) -> Result<Option<Pairs>, NoMemory>
     ensures { IfOk result (λ o. o ≡ spec.pairs_of (members_view members.now.entries)) }
 {
     let mut pairs = Many::new(alloc);
     for (key, member) in members.iter() {
-        match pair(alloc, key.as_str(), member)? {
+        match pair(alloc, key.as_str(), tree(alloc, member))? {
             Some(pair) => pairs.push(pair)?,
             None => return Ok(None),
         }
@@ -295,32 +247,32 @@ fn word_named(text: &str) -> Option<Word>
 }
 
 fn type_word(alloc: Global, value: &Value) -> Result<Option<SchemaWord>, NoMemory>
-    ensures { IfOk result (λ o. o ≡ option_map word.Type (spec.types (view value.now))) }
+    ensures { IfOk result (λ o. o ≡ option_map w.Type (spec.types (view value.now))) }
 {
     Ok(types(alloc, value)?.map(SchemaWord::Type))
 }
 
 fn enum_word(alloc: Global, value: &Value) -> Result<Option<SchemaWord>, NoMemory>
-    ensures { IfOk result (λ o. o ≡ option_map word.Enum (spec.tree_list (view value.now))) }
+    ensures { IfOk result (λ o. o ≡ option_map w.Enum (spec.tree_list (view value.now))) }
 {
     Ok(tree_list(alloc, value)?.map(SchemaWord::Enum))
 }
 
 fn const_word(alloc: Global, value: &Value) -> Result<Option<SchemaWord>, NoMemory>
-    ensures { IfOk result (λ o. o ≡ option_map word.Const (spec.tree_of (view value.now))) }
+    ensures { IfOk result (λ o. o ≡ option_map w.Const (spec.tree_of (view value.now))) }
 {
     Ok(tree(alloc, value)?.map(SchemaWord::Const))
 }
 
 fn required_word(alloc: Global, value: &Value) -> Result<Option<SchemaWord>, NoMemory>
-    ensures { IfOk result (λ o. o ≡ option_map word.Required (spec.keys (view value.now))) }
+    ensures { IfOk result (λ o. o ≡ option_map w.Required (spec.keys (view value.now))) }
 {
     Ok(keys(alloc, value)?.map(SchemaWord::Required))
 }
 
 #[cycle(schemas)]
 fn additional_word(alloc: Global, value: &Value) -> Result<Option<SchemaWord>, NoMemory>
-    ensures { IfOk result (λ o. o ≡ option_map word.AdditionalProperties (spec.additional_of (view value.now) (spec.schema_of (view value.now)))) }
+    ensures { IfOk result (λ o. o ≡ additional_word (view value.now)) }
 {
     if let Some(is_open) = value.as_bool() {
         return Ok(closed_word(is_open));
@@ -332,7 +284,7 @@ fn additional_word(alloc: Global, value: &Value) -> Result<Option<SchemaWord>, N
 }
 
 fn closed_word(is_open: bool) -> Option<SchemaWord>
-    ensures { result ≡ (if is_open then None else Some (word.AdditionalProperties additional.Closed)) }
+    ensures { result ≡ (if is_open then None else Some (w.AdditionalProperties a.Closed)) }
 {
     if is_open {
         None
@@ -343,7 +295,7 @@ fn closed_word(is_open: bool) -> Option<SchemaWord>
 
 #[cycle(schemas)]
 fn schema_list(alloc: Global, value: &Value) -> Result<Option<Schemas>, NoMemory>
-    ensures { IfOk result (λ o. o ≡ option_and_then spec.if_any (spec.schema_list (view value.now))) }
+    ensures { IfOk result (λ o. o ≡ some_schemas (view value.now)) }
 {
     match value {
         Value::Array(values) => Ok(if_any(schemas(alloc, values.as_slice())?)),
@@ -364,7 +316,7 @@ fn property_list(alloc: Global, value: &Value) -> Result<Option<SchemaProperties
 /// A word with its operand.
 #[cycle(schemas)]
 fn operand(alloc: Global, word: Word, value: &Value) -> Result<Option<SchemaWord>, NoMemory>
-    ensures { IfOk result (λ o. o ≡ spec.operand word (view value.now) (spec.schema_of (view value.now)) (spec.schema_list (view value.now)) (spec.property_list (view value.now))) }
+    ensures { IfOk result (λ o. o ≡ word_with (view value.now) word) }
 {
     match word {
         Word::Type => type_word(alloc, value),
@@ -391,7 +343,7 @@ fn operand(alloc: Global, word: Word, value: &Value) -> Result<Option<SchemaWord
 
 #[cycle(schemas)]
 fn word(alloc: Global, key: &str, value: &Value) -> Result<Option<SchemaWord>, NoMemory>
-    ensures { IfOk result (λ o. o ≡ option_and_then (λ v. spec.operand v (view value.now) (spec.schema_of (view value.now)) (spec.schema_list (view value.now)) (spec.property_list (view value.now))) (spec.word_named key.now)) }
+    ensures { IfOk result (λ o. o ≡ word_under key.now (view value.now)) }
 {
     match word_named(key) {
         Some(word) => operand(alloc, word, value),
@@ -400,7 +352,7 @@ fn word(alloc: Global, key: &str, value: &Value) -> Result<Option<SchemaWord>, N
 }
 
 #[cycle(schemas)]
-#[tactic(auto, using(crate::proofs::SpelledLaws::joined_steps))]
+#[tactic(auto, using(udb_base::specs::Lists::part_steps))]
 fn words(alloc: Global, members: &Map<String, Value>) -> Result<Option<SchemaWords>, NoMemory>
     ensures { IfOk result (λ o. o ≡ spec.words_of (members_view members.now.entries)) }
 {
@@ -414,21 +366,20 @@ fn words(alloc: Global, members: &Map<String, Value>) -> Result<Option<SchemaWor
     Ok(Some(words))
 }
 
-#[cycle(schemas)]
-fn property(alloc: Global, key: &str, value: &Value) -> Result<Option<SchemaProperty>, NoMemory>
-    ensures { IfOk result (λ o. o ≡ option_map (λ s. record { key = key.now; schema = s }) (spec.schema_of (view value.now))) }
+/// The property of a key and a schema, where the schema is there.
+fn property(
+    alloc: Global,
+    key: &str,
+    schema: Result<Option<Schema>, NoMemory>,
+) -> Result<Option<SchemaProperty>, NoMemory>
+    ensures { IfOk result (λ o. IsMade (spec.property key.now) schema o) }
 {
-    match schema(alloc, value)? {
-        Some(schema) => Ok(Some(SchemaProperty {
-            key: Chars::of(alloc, key)?,
-            schema,
-        })),
-        None => Ok(None),
-    }
+    let (schema, key) = both(schema, Chars::of(alloc, key))?;
+    Ok(schema.map(|schema| SchemaProperty { key, schema }))
 }
 
 #[cycle(schemas)]
-#[tactic(auto, using(crate::proofs::SpelledLaws::joined_steps))]
+#[tactic(auto, using(udb_base::specs::Lists::part_steps))]
 fn properties(
     alloc: Global,
     members: &Map<String, Value>,
@@ -437,7 +388,7 @@ fn properties(
 {
     let mut properties = Many::new(alloc);
     for (key, member) in members.iter() {
-        match property(alloc, key.as_str(), member)? {
+        match property(alloc, key.as_str(), schema(alloc, member))? {
             Some(property) => properties.push(property)?,
             None => return Ok(None),
         }
@@ -446,7 +397,7 @@ fn properties(
 }
 
 #[cycle(schemas)]
-#[tactic(auto, using(crate::proofs::SpelledLaws::joined_steps))]
+#[tactic(auto, using(udb_base::specs::Lists::part_steps))]
 fn schemas(alloc: Global, values: &[Value]) -> Result<Option<Schemas>, NoMemory>
     ensures { IfOk result (λ o. o ≡ spec.schemas_of (items_view values.now)) }
 {
@@ -471,7 +422,8 @@ fn schema(alloc: Global, value: &Value) -> Result<Option<Schema>, NoMemory>
     }
 }
 
-fn spelled(alloc: Global, value: &Value) -> Result<Schema, SchemaTextFault>
+/// The schema that a JSON value spells, or why it is none.
+fn from_value(alloc: Global, value: &Value) -> Result<Schema, SchemaTextFault>
     ensures ok { IfOk result (λ s. spec.schema_of (view value.now) ≡ Some s) }
     ensures bad { result ≡ Err SchemaTextFault.BadWord → spec.schema_of (view value.now) ≡ None }
     ensures never { result ≢ Err SchemaTextFault.Syntax }
@@ -486,10 +438,10 @@ fn spelled(alloc: Global, value: &Value) -> Result<Schema, SchemaTextFault>
 fn from_text(alloc: Global, text: &str) -> Result<Schema, SchemaTextFault>
     ensures ok { IfOk result (λ s. spec.spelled text.now ≡ Some s) }
     ensures syntax { result ≡ Err SchemaTextFault.Syntax → read text.now ≡ None }
-    ensures bad { result ≡ Err SchemaTextFault.BadWord → (d : Data) × (read text.now ≡ Some d) × (spec.schema_of d ≡ None) }
+    ensures bad { result ≡ Err SchemaTextFault.BadWord → spec.IsNoSchema text.now }
 {
     match Value::from_str(alloc, text) {
-        Ok(value) => spelled(alloc, &value),
+        Ok(value) => from_value(alloc, &value),
         Err(error) => {
             if error.is_memory() {
                 Err(SchemaTextFault::Memory)
@@ -501,15 +453,17 @@ fn from_text(alloc: Global, text: &str) -> Result<Schema, SchemaTextFault>
 }
 
 impl Schema {
-    /// The schema that a JSON text spells. Its words, and the properties of a word, stand in the
-    /// order of their keys' bytes; of equal keys of an object `serde_json` keeps the last.
+    /// The schema that a JSON text spells (JSON Schema 2020-12, core 4.3, with the words of `Word`).
+    /// Its words, and the properties of a word, stand in the order of their keys' bytes; of equal
+    /// keys of an object the last one counts. `Syntax` is answered where the text is no JSON value,
+    /// `BadWord` where the value is no schema, and `Memory` for want of memory alone.
     pub fn from_json(alloc: Global, text: &str) -> Result<Schema, SchemaTextFault>
         ensures ok { IfOk result (λ s. spec.spelled text.now ≡ Some s) }
-        ensures spelled { (s : Schema) → spec.spelled text.now ≡ Some s → result ≢ Err SchemaTextFault.Memory → result ≡ Ok s }
+        ensures spelled { (s : Schema) → spec.spelled text.now ≡ Some s → Answers result (Ok s) }
         ensures syntax { result ≡ Err SchemaTextFault.Syntax → read text.now ≡ None }
-        ensures no_value { read text.now ≡ None → result ≢ Err SchemaTextFault.Memory → result ≡ Err SchemaTextFault.Syntax }
-        ensures bad { result ≡ Err SchemaTextFault.BadWord → (d : Data) × (read text.now ≡ Some d) × (spec.schema_of d ≡ None) }
-        ensures no_schema { (d : Data) → read text.now ≡ Some d → spec.schema_of d ≡ None → result ≢ Err SchemaTextFault.Memory → result ≡ Err SchemaTextFault.BadWord }
+        ensures no_value { read text.now ≡ None → Answers result (Err SchemaTextFault.Syntax) }
+        ensures bad { result ≡ Err SchemaTextFault.BadWord → spec.IsNoSchema text.now }
+        ensures no_schema { spec.IsNoSchema text.now → Answers result (Err fault.BadWord) }
     {
         from_text(alloc, text)
     }

@@ -3,8 +3,11 @@
 ghost use Rattle.std.specs.Prelude.{◌≡◌, ◌≢◌, ◌++◌, ◌∷◌, [], ℕ, List, map, if◌then◌else◌, true, false, IfOk, IfErr, OnOk, IsOk};
 ghost use Rattle.std.specs.Fmt.{decimal};
 ghost use Rattle.std.specs.List.{list_all, flat_map};
-ghost use Rattle.udb_schema.specs.Meets as meets;
+ghost use Rattle.udb_schema.specs.Meets.{meets, named};
 ghost use Rattle.udb_schema.specs.Faults as spec;
+ghost use Rattle.udb_schema.specs.Validating.{behind, Gains, given_for_key, all_for_key, failing_in};
+ghost use Rattle.udb_schema.specs.Validating.{items_meet, entry_meets, InEntry, IsUnder, OnFault, IsNamed};
+ghost use Rattle.udb_schema.specs.declared.validating.SchemaFault.TheVariants as faults;
 
 use crate::meeting::{is_named, word_is_met};
 use crate::words::{Additional, Schema, SchemaProperty, SchemaWord, Word};
@@ -33,30 +36,11 @@ impl From<AllocError> for SchemaFault {
     }
 }
 
+/// The place of a word in the order of examination, from 0.
 fn place_of(word: Word) -> u8
     ensures { result ≡ spec.place_of word }
 {
-    match word {
-        Word::Type => 0,
-        Word::Enum => 1,
-        Word::Const => 2,
-        Word::Minimum => 3,
-        Word::Maximum => 4,
-        Word::MinLength => 5,
-        Word::MinItems => 6,
-        Word::MaxItems => 7,
-        Word::UniqueItems => 8,
-        Word::MinProperties => 9,
-        Word::MaxProperties => 10,
-        Word::Required => 11,
-        Word::AdditionalProperties => 12,
-        Word::Properties => 13,
-        Word::Items => 14,
-        Word::AllOf => 15,
-        Word::AnyOf => 16,
-        Word::OneOf => 17,
-        Word::Not => 18,
-    }
+    word as u8
 }
 
 #[tactic(auto, using(crate::proofs::WordLaws::word_layers), unfolding(crate::specs::Faults::word_of))]
@@ -126,20 +110,14 @@ fn earlier(first: Option<Word>, word: Word) -> Option<Word>
 }
 
 fn fails(word: &SchemaWord, words: &[SchemaWord], tree: &Tree) -> bool
-    ensures { result ≡ spec.fails (meets.named words.now) tree.now word.now }
+    ensures { result ≡ spec.fails (named words.now) tree.now word.now }
 {
     counts_here(word) && !word_is_met(word, words, tree)
 }
 
 /// The word that is examined first of one and of those that fail at the node.
-fn earliest_of(first: Option<Word>, schema: &Schema, tree: &Tree) -> Option<Word>
-    ensures { result ≡ spec.earliest first (spec.failing_of tree.now schema.now) }
-{
-    earliest_in(first, schema.words.as_slice(), tree)
-}
-
 fn earliest_in(first: Option<Word>, words: &[SchemaWord], tree: &Tree) -> Option<Word>
-    ensures { result ≡ spec.earliest first (spec.failing_words (meets.named words.now) tree.now words.now) }
+    ensures { result ≡ spec.earliest first (failing_in words.now tree.now) }
 {
     let mut least = first;
     for word in words {
@@ -153,17 +131,17 @@ fn earliest_in(first: Option<Word>, words: &[SchemaWord], tree: &Tree) -> Option
 /// The first word that fails at the node itself.
 #[tactic(auto, using(crate::proofs::WordLaws::earliest_steps))]
 fn first_failing(schemas: &[&Schema], tree: &Tree) -> Option<Word>
-    ensures { result ≡ spec.first_failing (spec.behind schemas.now) tree.now }
+    ensures { result ≡ spec.first_failing (behind schemas.now) tree.now }
 {
     let mut least = None;
     for schema in schemas {
-        least = earliest_of(least, schema, tree);
+        least = earliest_in(least, schema.words.as_slice(), tree);
     }
     least
 }
 
 fn push_one<'a>(into: &mut Vec<&'a Schema>, schema: &'a Schema) -> Result<(), NoMemory>
-    ensures { OnOk result (spec.behind into.new.items ≡ spec.behind into.old.items ++ schema.now ∷ []) }
+    ensures { OnOk result (Gains into.old into.new (schema.now ∷ [])) }
 {
     into.push(schema)?;
     Ok(())
@@ -171,7 +149,7 @@ fn push_one<'a>(into: &mut Vec<&'a Schema>, schema: &'a Schema) -> Result<(), No
 
 #[tactic(auto, using(crate::proofs::WordLaws::items_steps))]
 fn push_for_items<'a>(into: &mut Vec<&'a Schema>, word: &'a SchemaWord) -> Result<(), NoMemory>
-    ensures { OnOk result (spec.behind into.new.items ≡ spec.behind into.old.items ++ spec.word_for_items word.now) }
+    ensures { OnOk result (Gains into.old into.new (spec.word_for_items word.now)) }
 {
     match word {
         SchemaWord::Items(schema) => push_one(into, schema),
@@ -183,7 +161,7 @@ fn push_each_for_items<'a>(
     into: &mut Vec<&'a Schema>,
     words: &'a [SchemaWord],
 ) -> Result<(), NoMemory>
-    ensures { OnOk result (spec.behind into.new.items ≡ spec.behind into.old.items ++ flat_map spec.word_for_items words.now) }
+    ensures { OnOk result (Gains into.old into.new (flat_map spec.word_for_items words.now)) }
 {
     for word in words {
         push_for_items(into, word)?;
@@ -193,7 +171,7 @@ fn push_each_for_items<'a>(
 
 /// The schemas that stand at the items of a list.
 fn for_items<'a>(alloc: Global, schemas: &[&'a Schema]) -> Result<Vec<&'a Schema>, NoMemory>
-    ensures { IfOk result (λ v. spec.behind v.items ≡ spec.for_items (spec.behind schemas.now)) }
+    ensures { IfOk result (λ v. behind v.items ≡ spec.for_items (behind schemas.now)) }
 {
     let mut into = Vec::new(alloc);
     for schema in schemas {
@@ -208,7 +186,7 @@ fn push_for_others<'a>(
     into: &mut Vec<&'a Schema>,
     additional: &'a Additional,
 ) -> Result<(), NoMemory>
-    ensures { OnOk result (spec.behind into.new.items ≡ spec.behind into.old.items ++ spec.for_others additional.now) }
+    ensures { OnOk result (Gains into.old into.new (spec.for_others additional.now)) }
 {
     match additional {
         Additional::Closed => Ok(()),
@@ -222,7 +200,7 @@ fn push_with_key<'a>(
     properties: &'a [SchemaProperty],
     key: &str,
 ) -> Result<(), NoMemory>
-    ensures { OnOk result (spec.behind into.new.items ≡ spec.behind into.old.items ++ spec.with_key key.now properties.now) }
+    ensures { OnOk result (Gains into.old into.new (spec.with_key key.now properties.now)) }
 {
     for property in properties {
         if property.key.as_str() == key {
@@ -239,7 +217,7 @@ fn push_for_key<'a>(
     words: &'a [SchemaWord],
     key: &str,
 ) -> Result<(), NoMemory>
-    ensures { OnOk result (spec.behind into.new.items ≡ spec.behind into.old.items ++ spec.word_for_key (meets.named words.now) key.now word.now) }
+    ensures { OnOk result (Gains into.old into.new (given_for_key words.now key.now word.now)) }
 {
     match word {
         SchemaWord::AdditionalProperties(additional) => {
@@ -259,7 +237,7 @@ fn push_each_for_key<'a>(
     words: &'a [SchemaWord],
     key: &str,
 ) -> Result<(), NoMemory>
-    ensures { OnOk result (spec.behind into.new.items ≡ spec.behind into.old.items ++ flat_map (spec.word_for_key (meets.named words.now) key.now) words.now) }
+    ensures { OnOk result (Gains into.old into.new (all_for_key words.now key.now)) }
 {
     for word in words {
         push_for_key(into, word, words, key)?;
@@ -273,7 +251,7 @@ fn for_key<'a>(
     schemas: &[&'a Schema],
     key: &str,
 ) -> Result<Vec<&'a Schema>, NoMemory>
-    ensures { IfOk result (λ v. spec.behind v.items ≡ spec.for_key key.now (spec.behind schemas.now)) }
+    ensures { IfOk result (λ v. behind v.items ≡ spec.for_key key.now (behind schemas.now)) }
 {
     let mut into = Vec::new(alloc);
     for schema in schemas {
@@ -295,7 +273,7 @@ fn path_under(alloc: Global, key: &str, path: &Chars) -> Result<Chars, NoMemory>
 
 /// A child's fault, named from its parent.
 fn fault_under(alloc: Global, key: &str, fault: SchemaFault) -> SchemaFault
-    ensures { (path : List ℕ) (word : Word) → result ≡ SchemaFault.At path word → (rest : List ℕ) × (fault ≡ SchemaFault.At rest word) × (path ≡ 47 ∷ key.now ++ rest) }
+    ensures { IsUnder key.now fault result }
 {
     match fault {
         SchemaFault::Memory => SchemaFault::Memory,
@@ -308,7 +286,7 @@ fn fault_under(alloc: Global, key: &str, fault: SchemaFault) -> SchemaFault
 
 /// A fault of the item at a place, named from its list.
 fn fault_at(alloc: Global, place: usize, fault: SchemaFault) -> SchemaFault
-    ensures { (path : List ℕ) (word : Word) → result ≡ SchemaFault.At path word → (rest : List ℕ) × (fault ≡ SchemaFault.At rest word) × (path ≡ 47 ∷ decimal place ++ rest) }
+    ensures { IsUnder (decimal place) fault result }
 {
     match format!(in alloc; "{place}") {
         Ok(digits) => fault_under(alloc, digits.as_str(), fault),
@@ -318,8 +296,8 @@ fn fault_at(alloc: Global, place: usize, fault: SchemaFault) -> SchemaFault
 
 #[cycle(validating)]
 fn first_fault(alloc: Global, schemas: &[&Schema], tree: &Tree) -> Result<(), SchemaFault>
-    ensures met { IsOk result → spec.all_meet (spec.behind schemas.now) tree.now ≡ true }
-    ensures fault { (path : List ℕ) (word : Word) → result ≡ Err (SchemaFault.At path word) → spec.FirstFault (spec.behind schemas.now) tree.now path word }
+    ensures met { IsOk result → spec.all_meet (behind schemas.now) tree.now ≡ true }
+    ensures fault { OnFault result (spec.FirstFault (behind schemas.now) tree.now) }
 {
     if let Some(word) = first_failing(schemas, tree) {
         return Err(SchemaFault::At {
@@ -336,8 +314,8 @@ fn first_fault(alloc: Global, schemas: &[&Schema], tree: &Tree) -> Result<(), Sc
 
 #[cycle(validating)]
 fn first_in_items(alloc: Global, schemas: &[&Schema], items: &[Tree]) -> Result<(), SchemaFault>
-    ensures met { IsOk result → list_all (spec.all_meet (spec.for_items (spec.behind schemas.now))) items.now ≡ true }
-    ensures fault { (path : List ℕ) (word : Word) → result ≡ Err (SchemaFault.At path word) → spec.InItems (spec.behind schemas.now) items.now path word }
+    ensures met { IsOk result → items_meet (behind schemas.now) items.now ≡ true }
+    ensures fault { OnFault result (spec.InItems (behind schemas.now) items.now) }
 {
     let under = for_items(alloc, schemas)?;
     for (place, item) in items.iter().enumerate() {
@@ -350,8 +328,8 @@ fn first_in_items(alloc: Global, schemas: &[&Schema], items: &[Tree]) -> Result<
 
 #[cycle(validating)]
 fn first_in_entry(alloc: Global, schemas: &[&Schema], entry: &Pair) -> Result<(), SchemaFault>
-    ensures met { IsOk result → spec.all_meet (spec.for_key entry.now.key (spec.behind schemas.now)) entry.now.value ≡ true }
-    ensures fault { (path : List ℕ) (word : Word) → result ≡ Err (SchemaFault.At path word) → (rest : List ℕ) × spec.FirstFault (spec.for_key entry.now.key (spec.behind schemas.now)) entry.now.value rest word × (path ≡ 47 ∷ entry.now.key ++ rest) }
+    ensures met { IsOk result → entry_meets (behind schemas.now) entry.now ≡ true }
+    ensures fault { OnFault result (InEntry (behind schemas.now) entry.now) }
 {
     let key = entry.key.as_str();
     let under = for_key(alloc, schemas, key)?;
@@ -363,8 +341,8 @@ fn first_in_entry(alloc: Global, schemas: &[&Schema], entry: &Pair) -> Result<()
 
 #[cycle(validating)]
 fn first_in_entries(alloc: Global, schemas: &[&Schema], entries: &[Pair]) -> Result<(), SchemaFault>
-    ensures met { IsOk result → list_all (λ e. spec.all_meet (spec.for_key e.key (spec.behind schemas.now)) e.value) entries.now ≡ true }
-    ensures fault { (path : List ℕ) (word : Word) → result ≡ Err (SchemaFault.At path word) → spec.InEntries (spec.behind schemas.now) entries.now path word }
+    ensures met { IsOk result → list_all (entry_meets (behind schemas.now)) entries.now ≡ true }
+    ensures fault { OnFault result (spec.InEntries (behind schemas.now) entries.now) }
 {
     for entry in entries {
         if let Err(fault) = first_in_entry(alloc, schemas, entry) {
@@ -375,13 +353,16 @@ fn first_in_entries(alloc: Global, schemas: &[&Schema], entries: &[Pair]) -> Res
 }
 
 impl Schema {
-    /// Whether a tree meets the schema, else its first failing place: a node before its children,
-    /// children in order, and at a node the first failing word in the order of `Word`.
+    /// Whether a tree meets the schema (JSON Schema 2020-12, validation 6 and core 10 and 11, on trees
+    /// without fractions). Else `At` names its first failing place and the word that fails there: a
+    /// node comes before its children, children in order, and at a node the words in the order of
+    /// `Word`. A failure inside `allOf`, `anyOf`, `oneOf` or `not` counts at the node of that word.
+    /// `Memory` is answered for want of memory alone.
     pub fn validate(&self, alloc: Global, tree: &Tree) -> Result<(), SchemaFault>
-        ensures met { IsOk result → meets.meets self.now tree.now ≡ true }
-        ensures taken { meets.meets self.now tree.now ≡ true → result ≢ Err SchemaFault.Memory → IsOk result }
-        ensures fault { (path : List ℕ) (word : Word) → result ≡ Err (SchemaFault.At path word) → (meets.meets self.now tree.now ≡ false) × spec.FirstFault (self.now ∷ []) tree.now path word }
-        ensures named { (path : List ℕ) (word : Word) → spec.FirstFault (self.now ∷ []) tree.now path word → result ≢ Err SchemaFault.Memory → result ≡ Err (SchemaFault.At path word) }
+        ensures met { IsOk result → meets self.now tree.now ≡ true }
+        ensures taken { meets self.now tree.now ≡ true → result ≢ Err faults.Memory → IsOk result }
+        ensures fault { OnFault result (spec.FailsAt self.now tree.now) }
+        ensures named { IsNamed self.now tree.now result }
     {
         first_fault(alloc, &[self], tree)
     }

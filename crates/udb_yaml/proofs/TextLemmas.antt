@@ -302,20 +302,3 @@ next_line front n e = omega arith
 pub empty_rest : (s : List ℕ) (b : Bool) → b ≡ eqb (length s) 0 → b ≡ true → s ≡ []
 empty_rest [] b is on = refl
 empty_rest (c ∷ s) b is on = let none : true ≡ false = sym on ∙ (is ∙ ne_eqb (suc (length s)) 0 (λ e. absurd (omega arith))) in absurd cc
-
--- no more lines than bytes
-few_rows : (s : List ℕ) → length (cut s) ≤ length s
-few_rows [] = omega arith
-few_rows (c ∷ s) = go (eqb c 10) (cut s) (few_rows s)
-  where
-    go : (b : Bool) (ls : List (List ℕ)) → length ls ≤ length s → length (cond b ([] ∷ ls) (with_first c ls)) ≤ suc (length s)
-    go true ls le = omega arith
-    go false [] le = omega arith
-    go false (l ∷ ls) le = omega arith
-
-same_count : (ls : List (List ℕ)) → length (map line_of ls) ≡ length ls
-same_count [] = refl
-same_count (l ∷ ls) = ap suc (same_count ls)
-
-pub few_lines : (s : List ℕ) → length s ≤ 65536 → length (lines_of s) < 4294967295
-few_lines s short = let a = few_rows s in let b = same_count (cut s) in omega arith

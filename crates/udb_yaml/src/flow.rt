@@ -1,15 +1,16 @@
 //! Values in flow.
 
-ghost use Rattle.std.specs.Prelude.{◌≡◌, ◌+◌, ◌<◌, ◌≤◌, ◌∷◌, [], suc, length, drop, map, IfOk, slice_index, if◌then◌else◌, eqb, IsUtf8};
+ghost use Rattle.std.specs.Prelude.{◌≡◌, ◌+◌, ◌<◌, ◌≤◌, length, drop, map, IfOk, slice_index, if◌then◌else◌, eqb, IsUtf8};
 ghost use Rattle.std.specs.Str.{IsCharBoundary};
 ghost use Rattle.yaml_spec.specs.Line as line;
 ghost use Rattle.yaml_spec.specs.Reading as spec;
-ghost use Rattle.udb_yaml.specs.Places.{Takes, Reads, ReadsParts, ReadsPart, SignAt};
+ghost use Rattle.udb_yaml.specs.Places.{Takes, Reads, ReadsPart, SignAt};
+ghost use Rattle.udb_yaml.specs.Clauses.{ReadsQuoted, ReadsRest, ReadsAllParts};
 
 use crate::bytes;
 use crate::indexed::IndexedPairs;
 use crate::keys::{has_flow, is_plain, key_of};
-use crate::quotes::{quote_of, quoted};
+use crate::quotes::{quote_of, read_quoted};
 use crate::scalars::meaning;
 use std::alloc::Global;
 use udb_base::{Chars, NoMemory};
@@ -61,6 +62,7 @@ fn closing(group: Group) -> u8
     }
 }
 
+/// A plain scalar in flow, up to the first of `, [ ] { }` and without spaces at its end (YAML 1.2.2, 7.3.3).
 fn plain(alloc: Global, text: &str) -> Result<Option<(Tree, usize)>, NoMemory>
     ensures { IfOk result (λ o. Reads text.now (spec.plain_in_flow text.now) o) }
 {
@@ -82,15 +84,16 @@ pub fn quoted_text(
 ) -> Result<Option<(Tree, usize)>, NoMemory>
     requires some { 0 < length text.now }
     requires quote { slice_index text.now 0 < 128 }
-    ensures { IfOk result (λ o. Reads text.now (spec.as_text (spec.quoted place (drop 1 text.now))) o) }
+    ensures { IfOk result (λ o. ReadsQuoted place text.now o) }
 {
-    match quoted(alloc, place, bytes::text_after(text, 1))? {
+    match read_quoted(alloc, place, bytes::text_after(text, 1))? {
         None => Ok(None),
         Some((value, count)) => Ok(Some((Tree::Text(value), count + 1))),
     }
 }
 
-/// What stands before a part.
+/// What stands before a part of a flow collection: nothing before an item; `key:` with spaces, or a
+/// quoted key with them, before an entry (YAML 1.2.2, 7.4).
 fn head(alloc: Global, group: Group, text: &str) -> Result<Option<(Chars, usize)>, NoMemory>
     ensures { IfOk result (λ o. Takes text.now (spec.flow_head group text.now) o) }
 {
@@ -110,7 +113,8 @@ fn head(alloc: Global, group: Group, text: &str) -> Result<Option<(Chars, usize)
     }
 }
 
-/// A value in flow, and how long it is, where so many lists and maps may still stand in one another.
+/// A flow node, and how long it is: a quoted scalar, `[..]`, `{..}` or a plain scalar (YAML 1.2.2, 7.5).
+/// So many lists and maps may still stand in one another.
 #[cycle(flow)]
 pub fn flow(alloc: Global, room: u32, text: &str) -> Result<Option<(Tree, usize)>, NoMemory>
     requires { IsUtf8 text.now }
@@ -141,7 +145,8 @@ fn first(text: &str) -> usize
     1 + bytes::front(bytes::after(text.as_bytes(), 1))
 }
 
-/// A list or map in flow, from its opening sign on.
+/// A flow sequence `[ part, .. ]` or a flow mapping `{ part, .. }` (YAML 1.2.2, 7.4), from its opening
+/// sign on.
 #[cycle(flow)]
 fn group(
     alloc: Global,
@@ -161,7 +166,7 @@ fn group(
     rest(alloc, room - 1, group, place, text)
 }
 
-/// A list or map behind its opening sign and spaces.
+/// A flow collection behind its opening sign and spaces: the closing sign, or parts up to it.
 #[cycle(flow)]
 fn rest(
     alloc: Global,
@@ -172,7 +177,7 @@ fn rest(
 ) -> Result<Option<(Tree, usize)>, NoMemory>
     requires utf8 { IsUtf8 text.now }
     requires boundary { IsCharBoundary text.now place }
-    ensures { IfOk result (λ o. Reads text.now (spec.flow_rest (spec.flow room) group (drop place text.now)) o) }
+    ensures { IfOk result (λ o. ReadsRest room group place text.now o) }
 {
     if place >= text.len() {
         return Ok(None);
@@ -186,7 +191,7 @@ fn rest(
     }
 }
 
-/// The parts of a list or map up to its closing sign.
+/// The parts of a flow collection, with `,` and spaces between them, up to its closing sign.
 #[cycle(flow)]
 fn parts(
     alloc: Global,
@@ -195,7 +200,7 @@ fn parts(
     text: &str,
 ) -> Result<Option<(Pairs, usize)>, NoMemory>
     requires { IsUtf8 text.now }
-    ensures { IfOk result (λ o. ReadsParts text.now (spec.flow_parts group (spec.flow room) (suc (length text.now)) [] text.now) o) }
+    ensures { IfOk result (λ o. ReadsAllParts room group text.now o) }
 {
     let mut before = IndexedPairs::new(alloc);
     let mut at = 0;
@@ -242,7 +247,7 @@ fn find_sign(group: Group, bytes: &[u8], at: usize) -> Sign
     Sign::More(at + 1 + bytes::front(bytes::after(bytes, at + 1)))
 }
 
-/// One part, and how long it is with the spaces behind it.
+/// One part, an item or `key: value` with a new key, and how long it is with the spaces behind it.
 #[cycle(flow)]
 fn part(
     alloc: Global,

@@ -6,9 +6,10 @@ ghost use Rattle.yaml_spec.specs.Line as line;
 ghost use Rattle.yaml_spec.specs.Reading as spec;
 ghost use Rattle.udb_yaml.specs.Places as place;
 ghost use Rattle.udb_yaml.specs.Places.{Takes, key_in, plain_key_in, Shows};
+ghost use Rattle.udb_yaml.specs.Clauses.{TakesQuotedKey};
 
 use crate::bytes;
-use crate::quotes::{quote_of, quoted};
+use crate::quotes::{quote_of, read_quoted};
 use crate::scalars::means_text;
 use std::alloc::Global;
 use udb_base::{Chars, NoMemory};
@@ -61,7 +62,7 @@ fn ends_in(byte: u8, text: &[u8]) -> bool
     text.len() > 0 && text[text.len() - 1] == byte
 }
 
-/// Whether a text is a plain scalar, before what follows it.
+/// Whether a text is a plain scalar, before what follows it (YAML 1.2.2, 7.3.3).
 pub fn is_plain(text: &[u8], after: &[u8]) -> bool
     ensures { result ≡ line.is_plain text.now after.now }
 {
@@ -107,9 +108,9 @@ fn plain_key(alloc: Global, flow: bool, text: &str) -> Result<Option<(Chars, usi
 fn quoted_key(alloc: Global, place: Inner, text: &str) -> Result<Option<(Chars, usize)>, NoMemory>
     requires some { 0 < length text.now }
     requires quote { slice_index text.now 0 < 128 }
-    ensures { IfOk result (λ o. Takes text.now (spec.past_colon (spec.quoted place (drop 1 text.now))) o) }
+    ensures { IfOk result (λ o. TakesQuotedKey place text.now o) }
 {
-    match quoted(alloc, place, bytes::text_after(text, 1))? {
+    match read_quoted(alloc, place, bytes::text_after(text, 1))? {
         None => Ok(None),
         Some((key, count)) => {
             let at = count + 1;
@@ -155,7 +156,7 @@ fn is_dash(text: &[u8]) -> bool
     text.len() > 0 && text[0] == b'-' && bytes::parts_here(bytes::after(text, 1))
 }
 
-/// What a line begins with.
+/// What a line begins with: `-`, a key with its colon, or neither (YAML 1.2.2, 8.2).
 pub fn sees(alloc: Global, text: &str) -> Result<Sight, NoMemory>
     ensures { IfOk result (λ x. Shows text.now (spec.sees text.now) x) }
 {

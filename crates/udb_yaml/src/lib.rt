@@ -7,8 +7,6 @@ mod frames;
 mod indexed;
 mod inline;
 mod keys;
-#[cfg(test)]
-mod large;
 mod marks;
 mod nodes;
 mod print;
@@ -17,10 +15,6 @@ mod reader;
 mod rows;
 mod scalars;
 mod steps;
-#[cfg(test)]
-mod tests;
-#[cfg(test)]
-mod written;
 
 pub use print::write_tree;
 pub use reader::read_tree;

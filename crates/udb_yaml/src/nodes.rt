@@ -1,9 +1,9 @@
 //! Nodes that begin on a line.
 
-ghost use Rattle.std.specs.Prelude.{◌≡◌, ◌+◌, suc, length, drop, IfOk, option_map};
+ghost use Rattle.std.specs.Prelude.{◌≡◌, ◌+◌, suc, IfOk, option_map};
 ghost use Rattle.yaml_spec.specs.Machine as spec;
-ghost use Rattle.yaml_spec.specs.Reading as reading;
-ghost use Rattle.udb_yaml.specs.Steps.{Begun, mark_of, at_place, CanCutAt};
+ghost use Rattle.udb_yaml.specs.Steps.{mark_of, CanCutAt};
+ghost use Rattle.udb_yaml.specs.Clauses.{inline_leaf, BeginsNode, BeginsBehind};
 
 use crate::bytes;
 use crate::frames::OpenFrame;
@@ -27,7 +27,7 @@ fn leaf(alloc: Global, least: usize, got: Option<Got>) -> Option<Leaf>
 
 /// An inline value, whose parent stands left of the least column.
 fn value(alloc: Global, room: u32, least: usize, text: &str) -> Result<Option<Leaf>, NoMemory>
-    ensures { IfOk result (λ o. o ≡ option_map (spec.leaf_of least) (reading.inline room text.now)) }
+    ensures { IfOk result (λ o. o ≡ inline_leaf room least text.now) }
 {
     let got = inline(alloc, room, text)?;
     Ok(leaf(alloc, least, got))
@@ -63,7 +63,7 @@ pub fn behind(
     frames: &mut Many<OpenFrame>,
 ) -> Result<Option<Leaf>, NoMemory>
     requires { CanCutAt text.now place }
-    ensures { IfOk result (λ o. Begun (at_place room (spec.begin room) column text.now place) frames.old frames.new o) }
+    ensures { IfOk result (λ o. BeginsBehind room column text.now place frames.old frames.new o) }
 {
     match place {
         Place::End => Ok(Some(Leaf::Hole)),
@@ -108,7 +108,8 @@ pub fn mark(sight: Sight) -> Option<(Group, Chars, Place)>
     }
 }
 
-/// A node that begins at a column, whose parent stands left of the least column.
+/// A node that begins at a column: a block sequence or mapping where a mark stands, else an inline value
+/// (YAML 1.2.2, 8.2). Its parent stands left of the least column.
 #[cycle(nodes)]
 pub fn begin(
     alloc: Global,
@@ -118,7 +119,7 @@ pub fn begin(
     text: &str,
     frames: &mut Many<OpenFrame>,
 ) -> Result<Option<Leaf>, NoMemory>
-    ensures { IfOk result (λ o. Begun (spec.begin room least column text.now) frames.old frames.new o) }
+    ensures { IfOk result (λ o. BeginsNode room least column text.now frames.old frames.new o) }
 {
     match mark(sees(alloc, text)?) {
         None => value(alloc, room, least, text),

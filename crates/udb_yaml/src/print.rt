@@ -1,11 +1,11 @@
 //! Writes trees.
 
-ghost use Rattle.std.specs.Prelude.{◌≡◌, ◌+◌, ◌++◌, ◌∷◌, ◌/◌, ◌%◌, ◌≤◌, ◌<◌, [], length, drop, true, IfOk, OnOk, slice_index, replicate};
+ghost use Rattle.std.specs.Prelude.{◌≡◌, ◌+◌, ◌++◌, ◌≤◌, ◌<◌, length, true, IfOk, OnOk, slice_index, replicate};
 ghost use Rattle.std.specs.Fmt.{signed_decimal};
-ghost use Rattle.std.specs.Str.{IsCharBoundary};
 ghost use Rattle.yaml_spec.specs.Texts as texts;
 ghost use Rattle.yaml_spec.specs.Line.{spaces};
 ghost use Rattle.yaml_spec.specs.Print as spec;
+ghost use Rattle.udb_yaml.specs.Clauses.{hex_escape, WritesRun};
 ghost use Rattle.udb_yaml.specs.Printing.{is_escaped, run_place, value_text, items_text, entries_text, group_text};
 
 use crate::bytes;
@@ -52,7 +52,7 @@ fn glyph(digit: u8) -> char
 
 fn push_code(out: &mut Chars, byte: u8) -> Result<(), NoMemory>
     requires { byte < 32 }
-    ensures { OnOk result (out.new ≡ out.old ++ 92 ∷ 120 ∷ spec.glyph (byte / 16) ∷ spec.glyph (byte % 16) ∷ []) }
+    ensures { OnOk result (out.new ≡ out.old ++ hex_escape byte) }
 {
     out.push_str("\\x")?;
     out.push(glyph(byte / 16))?;
@@ -77,7 +77,7 @@ fn push_escaped(out: &mut Chars, byte: u8) -> Result<(), NoMemory>
 /// The first bytes of a text between quotes, and how many they are.
 fn push_run(out: &mut Chars, text: &str) -> Result<usize, NoMemory>
     requires { 0 < length text.now }
-    ensures { IfOk result (λ n. (out.new ++ spec.escape (drop n text.now) ≡ out.old ++ spec.escape text.now) × (0 < n) × (n ≤ length text.now) × IsCharBoundary text.now n) }
+    ensures { IfOk result (λ n. WritesRun out.old out.new text.now n) }
 {
     let bytes = text.as_bytes();
     if is_escaped(bytes[0]) {
@@ -202,8 +202,8 @@ fn push_entries(
     Ok(())
 }
 
-/// The text of any tree.
-pub fn text_of_tree(alloc: Global, tree: &Tree) -> Result<Chars, NoMemory>
+/// The text of any tree, writable or not.
+fn text_of_tree(alloc: Global, tree: &Tree) -> Result<Chars, NoMemory>
     ensures { IfOk result (λ x. x ≡ spec.tree_text tree.now) }
 {
     let mut out = Chars::new(alloc);
@@ -216,7 +216,10 @@ pub fn text_of_tree(alloc: Global, tree: &Tree) -> Result<Chars, NoMemory>
     Ok(out)
 }
 
-/// The text of a tree. `read_tree` answers the tree for it.
+/// The text of a tree: block sequences and mappings (YAML 1.2.2, 8.2), the inner ones two columns to the
+/// right of the outer ones, and texts in double quotes. `read_tree` answers the tree for it. The tree has
+/// at most 32 lists and maps in one another, distinct keys and numbers from -2^63 to 2^64-1, as every tree
+/// that `read_tree` answers. The one refusal is want of memory.
 pub fn write_tree(alloc: Global, tree: &Tree) -> Result<Chars, NoMemory>
     requires { spec.IsWritable 32 tree.now }
     ensures text { IfOk result (λ x. x ≡ spec.tree_text tree.now) }

@@ -48,7 +48,8 @@ pub fn hex_digit(byte: u8) -> Option<u32>
     }
 }
 
-fn escaped(byte: u8) -> Turn
+/// What a byte behind a backslash does (YAML 1.2.2, 5.7).
+fn escape_turn(byte: u8) -> Turn
     ensures { result ≡ spec.turn_at Inner.Escaped byte }
 {
     match escape_code(byte) {
@@ -97,7 +98,7 @@ fn turn(place: Inner, byte: u8) -> Turn
             b'\\' => Turn::Goes(Inner::Escaped),
             _ => Turn::Byte(Inner::Double),
         },
-        Inner::Escaped => escaped(byte),
+        Inner::Escaped => escape_turn(byte),
         Inner::Digits(left, value) => digit(left, value, byte),
         Inner::Single => {
             if byte == b'\'' {
@@ -150,8 +151,13 @@ fn chars(bytes: Vec<u8>) -> Chars
     }
 }
 
-/// The text from a place between quotes on, and how long it is with its closing quote.
-pub fn quoted(alloc: Global, first: Inner, text: &str) -> Result<Option<(Chars, usize)>, NoMemory>
+/// The text of a quoted scalar from a place between its quotes on (YAML 1.2.2, 7.3.1 and 7.3.2), and how
+/// long it is with its closing quote.
+pub fn read_quoted(
+    alloc: Global,
+    first: Inner,
+    text: &str,
+) -> Result<Option<(Chars, usize)>, NoMemory>
     ensures { IfOk result (λ o. Takes text.now (spec.quoted first text.now) o) }
 {
     let mut place = first;

@@ -6,8 +6,10 @@ ghost use Rattle.yaml_spec.specs.Spells.{at};
 ghost use Rattle.yaml_spec.specs.Texts as texts;
 ghost use Rattle.yaml_spec.specs.Marks as marks;
 ghost use Rattle.yaml_spec.specs.Machine as spec;
-ghost use Rattle.yaml_spec.specs.Faults.{IsLeast};
-ghost use Rattle.udb_yaml.specs.Answers.{IsFault, IsWhole, IsAnswer, HasMark, feed_place};
+ghost use Rattle.yaml_spec.specs.Faults.{IsFirstBadLine};
+ghost use Rattle.yaml_spec.specs.Print.{IsWritable};
+ghost use Rattle.udb_yaml.specs.Answers.{IsFault, IsWhole, IsAnswer, IsReadAs, OnBad, OnOutside, feed_place};
+ghost use Rattle.udb_yaml.specs.Clauses.{IsFirstLine};
 
 use crate::bytes;
 use crate::marks::line_mark;
@@ -54,7 +56,7 @@ fn without_return(line: &[u8]) -> usize
 
 fn first_row(text: &str) -> Row
     requires { 0 < length text.now }
-    ensures lines { texts.lines_of text.now ≡ at result.column (drop result.column (take result.count text.now)) ∷ texts.lines_of (drop result.length text.now) }
+    ensures lines { IsFirstLine text.now result.column result.count result.length }
     ensures count { IsCharBoundary text.now result.count }
     ensures column { IsCharBoundary (take result.count text.now) result.column }
     ensures length { IsCharBoundary text.now result.length }
@@ -99,13 +101,15 @@ fn whole(alloc: Global, state: State) -> Result<Tree, YamlFault>
 }
 
 fn read(alloc: Global, text: &str) -> Result<Tree, YamlFault>
-    requires { length (texts.lines_of text.now) < 4294967295 }
     ensures { IsAnswer (texts.lines_of text.now) result }
 {
     let mut state = empty(alloc, false);
     let mut rest = text;
     let mut line: u32 = 0;
     'rows: while !rest.is_empty() {
+        if line == u32::MAX {
+            return Err(YamlFault::Memory);
+        }
         let row = first_row(rest);
         let content = bytes::text_after(bytes::text_before(rest, row.count), row.column);
         line += 1;
@@ -119,14 +123,19 @@ fn read(alloc: Global, text: &str) -> Result<Tree, YamlFault>
     whole(alloc, state)
 }
 
-/// The tree that a text spells.
+/// The tree that a text in the profile of YAML 1.2 spells, which `docs/formats/yaml.md` describes.
+///
+/// `Bad` and `Outside` name the first line, counted from 1, at which no text in the profile goes on:
+/// `Outside` where that line uses an anchor, an alias, a tag, a directive or a document mark (YAML
+/// 1.2.2, sections 6.8 and 6.9, 7.1 and 9.1), else `Bad`. `Memory` is answered for want of memory,
+/// and for a text of more than 4,294,967,295 lines, which `u32` can't count.
 pub fn read_tree(alloc: Global, text: &str) -> Result<Tree, YamlFault>
-    requires { length (texts.lines_of text.now) < 4294967295 }
     ensures read { (x : Tree) → result ≡ Ok x → texts.Spelled text.now x }
-    ensures spelled { (x : Tree) → texts.Spelled text.now x → (result ≡ Ok x) ⊎ (result ≡ Err YamlFault.Memory) }
+    ensures writable { (x : Tree) → result ≡ Ok x → IsWritable 32 x }
+    ensures spelled { (x : Tree) → texts.Spelled text.now x → IsReadAs x result }
     ensures once { (x y : Tree) → texts.Spelled text.now x → texts.Spelled text.now y → x ≡ y }
-    ensures bad { (n : ℕ) → result ≡ Err (YamlFault.Bad n) → IsLeast (texts.lines_of text.now) n × HasMark (texts.lines_of text.now) n None }
-    ensures outside { (n : ℕ) (w : Mark) → result ≡ Err (YamlFault.Outside n w) → IsLeast (texts.lines_of text.now) n × HasMark (texts.lines_of text.now) n (Some w) }
+    ensures bad { OnBad result (λ n. IsFirstBadLine text.now n None) }
+    ensures outside { OnOutside result (λ n w. IsFirstBadLine text.now n (Some w)) }
 {
     read(alloc, text)
 }

@@ -1,9 +1,10 @@
 //! Block scalars, row by row.
 
-ghost use Rattle.std.specs.Prelude.{◌≡◌, ◌++◌, ◌∷◌, [], ◌<◌, ◌-◌, ◌≤◌, length, replicate, IfOk, OnOk, Some, suc, encode_utf8};
+ghost use Rattle.std.specs.Prelude.{◌≡◌, ◌++◌, ◌<◌, ◌≤◌, ◌-◌, replicate, IfOk, OnOk, suc};
 ghost use Rattle.yaml_spec.specs.Spells.{at};
-ghost use Rattle.yaml_spec.specs.Machine as spec;
 ghost use Rattle.yaml_spec.specs.Line as line;
+ghost use Rattle.yaml_spec.specs.Machine as spec;
+ghost use Rattle.udb_yaml.specs.Clauses.{deeper_row};
 
 use crate::bytes;
 use std::alloc::{AllocError, Global};
@@ -48,10 +49,7 @@ fn push_feeds(text: &mut Chars, blanks: usize) -> Result<(), NoMemory>
 fn push_glue(text: &mut Chars, folds: bool, deeper: bool, blanks: usize) -> Result<(), NoMemory>
     ensures { OnOk result (text.new ≡ text.old ++ spec.glue folds deeper blanks) }
 {
-    if !folds {
-        return push_feeds(text, blanks);
-    }
-    if deeper {
+    if !folds || deeper {
         return push_feeds(text, blanks);
     }
     if blanks == 0 {
@@ -60,127 +58,94 @@ fn push_glue(text: &mut Chars, folds: bool, deeper: bool, blanks: usize) -> Resu
     push_feeds(text, blanks - 1)
 }
 
-fn first_row(block: Block, column: usize, content: &str) -> Result<Block, NoMemory>
-    ensures { IfOk result (λ b. b ≡ spec.first_row block column content.now) }
+/// The first row that isn't blank: the blank rows before it each give a line feed.
+fn add_first_row(block: &mut Block, column: usize, content: &str) -> Result<(), NoMemory>
+    ensures { OnOk result (block.new ≡ spec.first_row block.old column content.now) }
 {
-    let Block {
-        least,
-        folds,
-        keeps,
-        indentation: _,
-        text,
-        blanks,
-        deeper: _,
-    } = block;
-    let mut all = text;
-    push_times(&mut all, '\n', blanks)?;
-    all.push_str(content)?;
-    Ok(Block {
-        least,
-        folds,
-        keeps,
-        indentation: Some(column),
-        text: all,
-        blanks: 0,
-        deeper: bytes::begins(b' ', content.as_bytes()),
-    })
+    push_times(&mut block.text, '\n', block.blanks)?;
+    block.text.push_str(content)?;
+    block.indentation = Some(column);
+    block.blanks = 0;
+    block.deeper = bytes::begins(b' ', content.as_bytes());
+    Ok(())
 }
 
-fn next_row(
-    block: Block,
+/// Whether a row begins with a space behind the indentation.
+fn is_deeper(indentation: usize, column: usize, content: &str) -> bool
+    requires { indentation ≤ column }
+    ensures { result ≡ line.begins 32 (line.spaces (column - indentation) ++ content.now) }
+{
+    column > indentation || bytes::begins(b' ', content.as_bytes())
+}
+
+/// A later row that isn't blank, folded or kept behind the rows before it.
+fn add_next_row(
+    block: &mut Block,
     indentation: usize,
     column: usize,
     content: &str,
-) -> Result<Block, NoMemory>
+) -> Result<(), NoMemory>
     requires { indentation ≤ column }
-    ensures { IfOk result (λ b. b ≡ spec.next_row block indentation (line.spaces (column - indentation) ++ content.now)) }
+    ensures { OnOk result (block.new ≡ deeper_row block.old indentation column content.now) }
 {
-    let Block {
-        least,
-        folds,
-        keeps,
-        indentation: _,
-        text,
-        blanks,
-        deeper,
-    } = block;
-    let deeper_row = column > indentation || bytes::begins(b' ', content.as_bytes());
-    let mut all = text;
-    push_glue(&mut all, folds, deeper || deeper_row, blanks)?;
-    push_times(&mut all, ' ', column - indentation)?;
-    all.push_str(content)?;
-    Ok(Block {
-        least,
-        folds,
-        keeps,
-        indentation: Some(indentation),
-        text: all,
-        blanks: 0,
-        deeper: deeper_row,
-    })
+    let deeper = is_deeper(indentation, column, content);
+    push_glue(
+        &mut block.text,
+        block.folds,
+        block.deeper || deeper,
+        block.blanks,
+    )?;
+    push_times(&mut block.text, ' ', column - indentation)?;
+    block.text.push_str(content)?;
+    block.indentation = Some(indentation);
+    block.blanks = 0;
+    block.deeper = deeper;
+    Ok(())
 }
 
-fn blank_row(block: Block) -> Result<Block, NoMemory>
-    ensures { IfOk result (λ b. b ≡ spec.blank_row block) }
+/// One more blank row.
+fn add_blank_row(block: &mut Block) -> Result<(), NoMemory>
+    ensures { OnOk result (block.new ≡ spec.blank_row block.old) }
 {
-    let Block {
-        least,
-        folds,
-        keeps,
-        indentation,
-        text,
-        blanks,
-        deeper,
-    } = block;
-    match blanks.checked_add(1) {
+    match block.blanks.checked_add(1) {
+        Some(blanks) => {
+            block.blanks = blanks;
+            Ok(())
+        }
         None => Err(AllocError),
-        Some(blanks) => Ok(Block {
-            least,
-            folds,
-            keeps,
-            indentation,
-            text,
-            blanks,
-            deeper,
-        }),
     }
 }
 
-/// A block scalar with one more line inside it.
-pub fn grown(block: Block, column: usize, content: &str) -> Result<Option<Block>, NoMemory>
+/// A block scalar (YAML 1.2.2, 8.1) with one more line inside it, or none where that line stands left of
+/// its indentation.
+pub fn with_row(block: Block, column: usize, content: &str) -> Result<Option<Block>, NoMemory>
     ensures { IfOk result (λ o. o ≡ spec.grown block (at column content.now)) }
 {
+    let mut block = block;
     if content.is_empty() {
-        return Ok(Some(blank_row(block)?));
+        add_blank_row(&mut block)?;
+        return Ok(Some(block));
     }
     match block.indentation {
-        None => Ok(Some(first_row(block, column, content)?)),
+        None => add_first_row(&mut block, column, content)?,
         Some(indentation) => {
-            if indentation <= column {
-                Ok(Some(next_row(block, indentation, column, content)?))
-            } else {
-                Ok(None)
+            if column < indentation {
+                return Ok(None);
             }
+            add_next_row(&mut block, indentation, column, content)?;
         }
     }
+    Ok(Some(block))
 }
 
-/// The text of a block scalar.
+/// The text of a block scalar: without the chomping indicator `-`, text that isn't empty ends in one line
+/// feed (YAML 1.2.2, 8.1.1.2).
 pub fn block_tree(block: Block) -> Result<Tree, NoMemory>
     ensures { IfOk result (λ x. x ≡ spec.block_tree block) }
 {
-    let Block {
-        least: _,
-        folds: _,
-        keeps,
-        indentation: _,
-        text,
-        blanks: _,
-        deeper: _,
-    } = block;
-    let mut all = text;
-    if keeps && all.len() > 0 {
-        all.push('\n')?;
+    let mut text = block.text;
+    if block.keeps && text.len() > 0 {
+        text.push('\n')?;
     }
-    Ok(Tree::Text(all))
+    Ok(Tree::Text(text))
 }

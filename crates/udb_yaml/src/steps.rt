@@ -7,21 +7,23 @@ ghost use Rattle.yaml_spec.specs.Spells.{at};
 ghost use Rattle.yaml_spec.specs.Machine as spec;
 ghost use Rattle.yaml_spec.specs.Reading as reading;
 ghost use Rattle.udb_yaml.specs.Places.{CanCut, Shows};
-ghost use Rattle.udb_yaml.specs.Steps.{Begun, Stepped, kept_count, bound, next_at, under_all, Reaches, reader_of, is_start};
+ghost use Rattle.udb_yaml.specs.Steps.{kept_count, bound, Reaches, reader_of, is_start};
+ghost use Rattle.udb_yaml.specs.Clauses.{frame_tree, Closes, OpensPart, BeginsUnder, StepsNext, StepsOn};
+ghost use Rattle.udb_yaml.specs.Clauses.{ReachesUnlessSkipped, ReachesBlockRow, ReachesRow, ReachesNext};
 
 use crate::bytes;
 use crate::flow::{is_new, whole};
 use crate::frames::OpenFrame;
 use crate::keys::sees;
 use crate::nodes::{begin, behind, mark, right_of};
-use crate::rows::{block_tree, grown};
+use crate::rows::{block_tree, with_row};
 use std::alloc::Global;
 use udb_base::{Many, NoMemory};
 use yaml_spec::{Block, Group, Leaf, Pair, Sight, Tree};
 
 /// A list or map with its last part.
 fn with_value(alloc: Global, frame: OpenFrame, value: Tree) -> Result<Tree, NoMemory>
-    ensures { IfOk result (λ x. x ≡ line.whole frame.group (frame.parts ++ line.pair frame.key value ∷ [])) }
+    ensures { IfOk result (λ x. x ≡ frame_tree frame value) }
 {
     let OpenFrame {
         group,
@@ -53,7 +55,7 @@ pub fn close(
     leaf: Leaf,
 ) -> Result<Tree, NoMemory>
     requires { keep ≤ length frames.old }
-    ensures { IfOk result (λ x. (x ≡ spec.close (drop keep frames.old) leaf) × (frames.new ≡ take keep frames.old)) }
+    ensures { IfOk result (λ x. Closes keep frames.old frames.new leaf x) }
 {
     let mut value = leaf_tree(leaf)?;
     'closing: while frames.len() > keep {
@@ -85,7 +87,7 @@ fn group_of(sight: &Sight) -> Group
 }
 
 /// How many frames stand less deep.
-fn kept(frames: &[OpenFrame], level_here: u128) -> usize
+fn count_less_deep(frames: &[OpenFrame], level_here: u128) -> usize
     ensures count { result ≡ kept_count level_here frames.now }
     ensures within { result ≤ length frames.now }
 {
@@ -111,7 +113,7 @@ fn next(
 ) -> Result<Option<Leaf>, NoMemory>
     requires within { count < length frames.old }
     requires shows { Shows text.now (reading.sees text.now) sight }
-    ensures { IfOk result (λ o. Stepped (next_at count here frames.old leaf text.now) frames.new o) }
+    ensures { IfOk result (λ o. StepsNext count here frames.old leaf text.now frames.new o) }
 {
     let value = close(alloc, frames, right_of(count)?, leaf)?;
     match frames.pop() {
@@ -136,7 +138,7 @@ fn part(
     sight: Sight,
 ) -> Result<Option<Leaf>, NoMemory>
     requires { CanCut text.now sight }
-    ensures { IfOk result (λ o. Begun (spec.next (spec.inside room (spec.begin room) frame.column text.now) frame value sight) frames.old frames.new o) }
+    ensures { IfOk result (λ o. OpensPart room frame value text.now sight frames.old frames.new o) }
 {
     match mark(sight) {
         None => Ok(None),
@@ -170,7 +172,7 @@ fn under(
     column: usize,
     text: &str,
 ) -> Result<Option<Leaf>, NoMemory>
-    ensures { IfOk result (λ o. Begun (under_all frames.old leaf column text.now) frames.old frames.new o) }
+    ensures { IfOk result (λ o. BeginsUnder frames.old leaf column text.now frames.new o) }
 {
     match leaf {
         Leaf::Hole => {
@@ -206,11 +208,11 @@ fn add(
     column: usize,
     text: &str,
 ) -> Result<Option<Leaf>, NoMemory>
-    ensures { IfOk result (λ o. Stepped (spec.add 32 0 0 frames.old leaf column text.now) frames.new o) }
+    ensures { IfOk result (λ o. StepsOn frames.old leaf column text.now frames.new o) }
 {
     let sight = sees(alloc, text)?;
     let here = level(group_of(&sight), column);
-    let count = kept(frames.as_slice(), here);
+    let count = count_less_deep(frames.as_slice(), here);
     if count < frames.len() {
         next(alloc, frames, count, leaf, text, sight, here)
     } else {
@@ -239,7 +241,7 @@ fn unless_skipped(
     column: usize,
     content: &str,
 ) -> Result<Option<State>, NoMemory>
-    ensures { IfOk result (λ o. Reaches (spec.with_start state.started (spec.unless_skipped 32 0 0 state.frames state.leaf (at column content.now))) o) }
+    ensures { IfOk result (λ o. ReachesUnlessSkipped state column content.now o) }
 {
     if is_skipped(content) {
         return Ok(Some(state));
@@ -276,10 +278,10 @@ fn row(
     column: usize,
     content: &str,
 ) -> Result<Option<State>, NoMemory>
-    ensures { IfOk result (λ o. Reaches (spec.with_start started (spec.advance 32 0 0 frames (Leaf.Block block) (at column content.now))) o) }
+    ensures { IfOk result (λ o. ReachesBlockRow started frames block column content.now o) }
 {
     if is_inside(block.least, column, content) {
-        return match grown(block, column, content)? {
+        return match with_row(block, column, content)? {
             None => Ok(None),
             Some(next) => Ok(Some(State {
                 started,
@@ -308,7 +310,7 @@ fn advance(
     column: usize,
     content: &str,
 ) -> Result<Option<State>, NoMemory>
-    ensures { IfOk result (λ o. Reaches (spec.with_start state.started (spec.advance 32 0 0 state.frames state.leaf (at column content.now))) o) }
+    ensures { IfOk result (λ o. ReachesRow state column content.now o) }
 {
     let State {
         started,
@@ -407,14 +409,14 @@ fn is_start(state: &State) -> bool
     }
 }
 
-/// One more line.
+/// What is open behind one more line, or none where no text in the profile goes on with it.
 pub fn step(
     alloc: Global,
     state: State,
     column: usize,
     content: &str,
 ) -> Result<Option<State>, NoMemory>
-    ensures { IfOk result (λ o. Reaches (spec.step state.started state.frames state.leaf (at column content.now)) o) }
+    ensures { IfOk result (λ o. ReachesNext state column content.now o) }
 {
     if is_start(&state) {
         first(alloc, state.started, column, content)

@@ -1,3 +1,4 @@
+pub mod TreeLaws
 pub mod Cases
 pub mod Quotes
 pub mod Heads
@@ -10,3 +11,4 @@ pub mod Whole
 pub mod Outside
 pub mod Numbers
 pub mod Printed
+pub mod Writable

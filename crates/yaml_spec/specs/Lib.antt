@@ -6,3 +6,4 @@ pub mod Reading
 pub mod Machine
 pub mod Marks
 pub mod Print
+pub mod Trees

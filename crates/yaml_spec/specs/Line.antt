@@ -1,4 +1,4 @@
--- What stands on one line. Texts are lists of their bytes in UTF-8, and each sign of the profile is one byte. Sources: YAML 1.2.2, sections 5.7 (escapes), 7.3 (flow scalars), 7.4 (flow collections) and 8.1.1 (heads of block scalars), cut to the profile.
+-- Statement: what stands on one line. Texts are lists of their bytes in UTF-8, and each sign of the profile is one byte. Sources: YAML 1.2.2, sections 5.7 (escapes), 7.3 (flow scalars), 7.4 (flow collections) and 8.1.1 (headers of block scalars), cut to the profile.
 use Rattle.std.specs.Prelude.{◌≡◌, ℕ, suc, ◌+◌, ◌-◌, ◌*◌, ◌^◌, Bool, true, false, not, ◌&&◌, ◌||◌, if◌then◌else◌, eqb, leb, IsTrue, List, [], ◌∷◌, ◌++◌, map, replicate, length, ℤ, pos, neg_ℤ, Option, Some, None, option_map, option_and_then, encode_utf8}
 use Rattle.std.specs.Str.{bytes_eq}
 use Rattle.yaml_spec.specs.declared.state.Group.{Group}
@@ -132,7 +132,7 @@ none_here (Some n) = false
 abbrev pub means_text : List ℕ → Bool
 means_text s = not (is_null s) && (not (is_true s) && (not (is_false s) && none_here (number s)))
 
--- ---- quotes
+-- ---- quoted scalars
 
 -- \" \\ \/ \n \t \r \0
 abbrev pub escape_code : ℕ → Option ℕ
@@ -196,9 +196,9 @@ pub data Head : Group → List ℕ → List ℕ → Type 0 where
   plain : {s : List ℕ} → IsTrue (is_plain s (58 ∷ []) && means_text s) → Head Mapped (s ++ 58 ∷ []) s
   quoted : {s k : List ℕ} → Quoted s k → Head Mapped (s ++ 58 ∷ []) k
 
--- ---- values on one line
+-- ---- flow collections, and values on one line
 
--- the signs that open and close a list or map in flow
+-- the signs that open and close a flow sequence or a flow mapping
 abbrev pub opening : Group → ℕ
 opening Listed = 91
 opening Mapped = 123
@@ -207,13 +207,13 @@ abbrev pub closing : Group → ℕ
 closing Listed = 93
 closing Mapped = 125
 
--- what stands before a part in flow: nothing, or a key, its colon and spaces
+-- what stands before a part of a flow collection: nothing, or a key, its colon and spaces
 pub data FlowHead : Group → List ℕ → List ℕ → Type 0 where
   item : FlowHead Listed [] []
   plain : (i : ℕ) {s : List ℕ} → IsTrue (is_plain s (58 ∷ []) && (not (has_flow s) && means_text s)) → FlowHead Mapped (s ++ 58 ∷ spaces (suc i)) s
   quoted : (i : ℕ) {s k : List ℕ} → Quoted s k → FlowHead Mapped (s ++ 58 ∷ spaces (suc i)) k
 
--- A value in flow, and what follows it; r lists and maps may still stand in one another.
+-- A node in a flow collection, and what follows it; r lists and maps may still stand in one another.
 mutual
   pub data Flow : ℕ → List ℕ → List ℕ → Tree → Type 0 where
     plain : {r : ℕ} {s after : List ℕ} → IsTrue (is_plain s after && not (has_flow s)) → Flow r s after (meaning s)
@@ -234,7 +234,7 @@ pub data Value : ℕ → List ℕ → List ℕ → Tree → Type 0 where
   quoted : {r : ℕ} {s t x : List ℕ} → Quoted s x → Value r s t (tree.Text x)
   flow : {r : ℕ} {s t : List ℕ} {x : Tree} → IsTrue (begins 91 s || begins 123 s) → Flow r s t x → Value r s t x
 
--- the head of a block scalar: whether it folds, and whether it keeps its last line's end
+-- the header of a block scalar: whether it folds, and whether it keeps its last line's end, which the chomping indicator `-` strips
 pub data BlockHead : List ℕ → Bool → Bool → Type 0 where
   bar : BlockHead (124 ∷ []) false true
   bar_strips : BlockHead (124 ∷ 45 ∷ []) false false

@@ -1,4 +1,4 @@
--- Reading line by line. A state is the open maps and lists, the outermost first, and what stands at the innermost place; every state has a tree.
+-- Machinery, no part of what a text means: reading line by line. A state is the open maps and lists, the outermost first, and what stands at the innermost place; every state has a tree.
 use Rattle.std.specs.Prelude.{ℕ, zero, suc, ◌+◌, ◌-◌, ◌*◌, Bool, true, false, ◌&&◌, ◌||◌, if◌then◌else◌, eqb, leb, ltb, List, [], ◌∷◌, ◌++◌, drop, replicate, Option, Some, None}
 use Rattle.yaml_spec.specs.declared.state.Group.{Group}
 use Rattle.yaml_spec.specs.declared.state.Group.TheVariants.{Listed, Mapped}

@@ -1,4 +1,4 @@
--- Reading the mark of a line at fault.
+-- Machinery, no part of what a text means: reading the mark of a line at fault.
 use Rattle.std.specs.Prelude.{ℕ, Bool, true, false, ◌&&◌, ◌||◌, if◌then◌else◌, eqb, List, [], ◌∷◌, Option, Some, None}
 use Rattle.yaml_spec.specs.declared.tree.Mark.{Mark}
 use Rattle.yaml_spec.specs.declared.tree.Mark.TheVariants.{Anchor, Alias, Tag, Document, Directive}

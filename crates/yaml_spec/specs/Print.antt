@@ -1,4 +1,4 @@
--- The text that is written of a tree.
+-- Statement: the text that is written of a tree, and which trees may be written.
 use Rattle.std.specs.Prelude.{ℕ, suc, ◌+◌, ◌/◌, ◌%◌, ◌^◌, ◌<◌, Bool, true, false, if◌then◌else◌, eqb, ltb, IsTrue, List, [], ◌∷◌, ◌++◌, map, pos, negsuc}
 use Rattle.std.specs.Fmt.{signed_decimal}
 use Rattle.yaml_spec.specs.declared.state.Group.TheVariants.{Mapped}

@@ -1,4 +1,4 @@
--- Reading one line.
+-- Machinery, no part of what a text means: reading one line from its front.
 use Rattle.std.specs.Prelude.{ℕ, zero, suc, ◌+◌, ◌-◌, ◌*◌, Bool, true, false, not, ◌&&◌, ◌||◌, if◌then◌else◌, eqb, leb, ltb, List, [], ◌∷◌, ◌++◌, length, drop, Option, Some, None, encode_utf8}
 use Rattle.yaml_spec.specs.declared.state.Group.{Group}
 use Rattle.yaml_spec.specs.declared.state.Group.TheVariants.{Listed, Mapped}

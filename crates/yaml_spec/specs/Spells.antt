@@ -1,4 +1,5 @@
--- What lines spell. Sources: YAML 1.2.2, sections 6 (comments, blank lines), 8.1 (block scalars) and 8.2 (block lists and maps), cut to the profile.
+-- Statement: what lines spell. Sources: YAML 1.2.2, sections 6 (comments, blank lines), 8.1 (block scalars) and 8.2 (block
+-- sequences and mappings), cut to the profile.
 use Rattle.std.specs.Prelude.{ℕ, zero, suc, ◌+◌, ◌-◌, ◌<◌, Bool, true, false, not, ◌&&◌, ◌||◌, if◌then◌else◌, leb, IsTrue, ◌⊎◌, List, [], ◌∷◌, ◌++◌, replicate}
 use Rattle.yaml_spec.specs.declared.state.Group.{Group}
 use Rattle.yaml_spec.specs.declared.state.Group.TheVariants.{Listed, Mapped}
@@ -110,7 +111,7 @@ mutual
     inline : {r m c : ℕ} {s : List ℕ} {ls : List Line} {x : Tree} → Inline r m s ls x → Node r m c (at c s ∷ ls) x
     group : {r m c : ℕ} {k : Group} {ls : List Line} {ps : List Pair} → Parts r k c ls ps → Node (suc r) m c ls (whole k ps)
 
-  -- the items of a list, or the entries of a map, at column c
+  -- the items of a block sequence, or the entries of a block mapping, at column c
   pub data Parts : ℕ → Group → ℕ → List Line → List Pair → Type 0 where
     one : {r c : ℕ} {k : Group} {a : List Line} {p : Pair} → Part r k c a p → Parts r k c a (p ∷ [])
     more : {r c : ℕ} {k : Group} {a b : List Line} {ps : List Pair} {p : Pair} → Parts r k c a ps → Part r k c b p → IsTrue (is_new k p.key ps) → Parts r k c (a ++ b) (ps ++ p ∷ [])

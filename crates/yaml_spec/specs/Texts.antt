@@ -1,4 +1,4 @@
--- What a text spells, by its lines.
+-- Statement: what a text spells, by its lines.
 use Rattle.std.specs.Prelude.{ℕ, suc, if◌then◌else◌, eqb, List, [], ◌∷◌, map}
 use Rattle.yaml_spec.specs.declared.tree.Tree.{Tree}
 use Rattle.yaml_spec.specs.Spells.{Line, at, Spells}

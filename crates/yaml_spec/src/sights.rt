@@ -1,4 +1,4 @@
-//! What one line shows.
+//! Machinery: what one line shows.
 
 use crate::state::Group;
 use crate::tree::Tree;

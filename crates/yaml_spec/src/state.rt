@@ -1,4 +1,4 @@
-//! What is open while lines are read.
+//! Machinery: what is open while lines are read.
 
 use crate::tree::{Pairs, Tree};
 use udb_base::{Chars, Many};

@@ -1,7 +1,8 @@
 use Rattle.std.proofs.Common.{◌≡◌, ap, sym, ◌∙◌, Err}
-use Rattle.udb_schema.specs.Faults.{behind, for_items}
+use Rattle.udb_schema.specs.Faults.{for_items}
+use Rattle.udb_schema.specs.Validating.{behind}
 use Rattle.udb_schema.proofs.MeetLemmas.{root_fault, leaf_answer, list_answer, map_answer, list_fault, map_fault, fault_of, item_at, entry_at}
-use Rattle.udb_schema.proofs.TreeLaws.{no_items, no_entries}
+use Rattle.yaml_spec.proofs.TreeLaws.{no_items, no_entries}
 use Rattle.udb_schema.specs.declared.validating.SchemaFault.TheVariants.{At}
 use Rattle.udb_schema.proofs.validating.+validating.Goals as goal
 
