@@ -1,0 +1,12 @@
+pub mod AnswerLemmas
+pub mod BodyLemmas
+pub mod Cuts
+pub mod NameLemmas
+pub mod FrontLemmas
+pub mod HeadingLemmas
+pub mod KeepLemmas
+pub mod Numerals
+pub mod PartLemmas
+pub mod ReadLemmas
+pub mod RowLemmas
+pub mod TitleLemmas

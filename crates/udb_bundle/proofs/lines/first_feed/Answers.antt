@@ -1,0 +1,8 @@
+use Rattle.std.proofs.Common.{rules, tests}
+use Rattle.std.proofs.lemmas.Iterator.{YieldsList-from_slice}
+use Rattle.std.proofs.lemmas.Iterator.Search.{position_from_yields_List}
+use Rattle.udb_bundle.specs.Reading.{is_feed}
+use Rattle.udb_bundle.proofs.lines.first_feed.Goals as goal
+
+pub returns : goal.returns
+returns c = position_from_yields_List is_feed _ _ _ c.position.ensures.ran (YieldsList-from_slice c.args.bytes.now cc) (λ x b q k. search (rules, tests))
