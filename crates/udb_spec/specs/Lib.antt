@@ -9,3 +9,7 @@ pub mod Cells
 pub mod Known
 pub mod KnownLaws
 pub mod Constraints
+pub mod Refutes
+pub mod RefutesLaws
+pub mod ProofText
+pub mod ProofTextLaws
