@@ -1,3 +1,2 @@
-pub mod TreeLaws
 pub mod CondLaws
 pub mod RequirementLaws

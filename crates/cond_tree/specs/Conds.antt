@@ -14,8 +14,11 @@ use Rattle.cond_tree.specs.declared.forms.Join.{Join}
 use Rattle.cond_tree.specs.declared.forms.Join.TheVariants as join
 use Rattle.cond_tree.specs.declared.forms.Form.{Form}
 use Rattle.cond_tree.specs.declared.forms.Form.TheVariants as form
-use Rattle.cond_tree.specs.Trees.{text_of, items_of, entries_of, value_of, each, few, only, beside_name}
-use Rattle.cond_tree.specs.Members.{member_of}
+use Rattle.udb_base.specs.Lists.{each}
+use Rattle.yaml_spec.specs.Trees.{text_of, entries_of}
+use Rattle.cond_tree.specs.declared.members.Wanted.TheVariants as wanted
+use Rattle.cond_tree.specs.Values.{value_of, few_items, only_entry, beside_name}
+use Rattle.cond_tree.specs.Members.{member_by}
 
 -- ---- parameters
 
@@ -39,15 +42,21 @@ is_testable t.Equal x = true
 is_testable t.NotEqual x = true
 is_testable _ x = is_number x
 
-abbrev pub tested : List ℕ → Test → Value → Option Cond
-tested name test x = if is_testable test x then Some (c.Param name test x) else None
+abbrev pub param_cond : List ℕ → Test → Value → Option Cond
+param_cond name test x = if is_testable test x then Some (c.Param name test x) else None
+
+abbrev pub param_cond_with : List ℕ → Test → Tree → Option Cond
+param_cond_with name test t = option_and_then (param_cond name test) (value_of t)
 
 -- the value under `name`, and the test with its value
 abbrev pub atom_of : Tree → Pair → Option Cond
-atom_of x p = option_and_then (λ name. option_and_then (λ test. option_and_then (tested name test) (value_of p.value)) (test_of p.key)) (text_of x)
+atom_of x p = option_and_then (λ name. option_and_then (λ test. param_cond_with name test p.value) (test_of p.key)) (text_of x)
+
+abbrev pub param_parts : Tree → Option (Tree × Pair)
+param_parts t = option_and_then beside_name (entries_of t)
 
 abbrev pub param_of : Tree → Option Cond
-param_of t = option_and_then (λ x. atom_of x.0 x.1) (option_and_then beside_name (entries_of t))
+param_of t = option_and_then (λ x. atom_of x.0 x.1) (param_parts t)
 
 -- ---- forms
 
@@ -66,7 +75,7 @@ form_in p = option_map (λ f. (f, p.value)) (form_named p.key)
 
 -- a map with one entry, whose key names a form
 abbrev pub form_of : Tree → Option (Form × Tree)
-form_of t = option_and_then form_in (option_and_then only (entries_of t))
+form_of t = option_and_then form_in (only_entry t)
 
 abbrev pub join_of : Join → List Cond → Cond
 join_of join.All parts = c.All parts
@@ -75,7 +84,7 @@ join_of join.One parts = c.One parts
 
 -- one to 64 conditions
 abbrev pub parts_of : (Tree → Option Cond) → Tree → Option (List Cond)
-parts_of read t = option_and_then (each read) (option_and_then few (items_of t))
+parts_of read t = option_and_then (each read) (few_items t)
 
 -- what stands under the key of a form; `read` reads the conditions in it
 abbrev pub by_form : (Tree → Option Cond) → Form → Tree → Option Cond
@@ -84,8 +93,8 @@ by_form read form.Param t = param_of t
 by_form read (form.Joined j) t = option_map (join_of j) (parts_of read t)
 by_form read form.Not t = option_map c.Not (read t)
 
-abbrev pub formed : (Tree → Option Cond) → Tree → Option Cond
-formed read t = option_and_then (λ x. by_form read x.0 x.1) (form_of t)
+abbrev pub form_cond : (Tree → Option Cond) → Tree → Option Cond
+form_cond read t = option_and_then (λ x. by_form read x.0 x.1) (form_of t)
 
 -- an extension by its name, in any version that meets its requirements
 abbrev pub member_or : Option Member → Option Cond → Option Cond
@@ -95,4 +104,4 @@ member_or None other = other
 -- the condition that a tree spells with at most that many forms round one another
 unfoldable pub cond_of : ℕ → Tree → Option Cond
 cond_of zero t = None
-cond_of (suc n) t = member_or (member_of t) (formed (cond_of n) t)
+cond_of (suc n) t = member_or (member_by wanted.Any t) (form_cond (cond_of n) t)

@@ -1,3 +1,3 @@
-pub mod Trees
+pub mod Values
 pub mod Members
 pub mod Conds

@@ -10,7 +10,9 @@ use Rattle.entry_tree.specs.declared.Member.{Member}
 use Rattle.udb_cond.specs.Requirements.{requirement_of}
 use Rattle.cond_tree.specs.declared.members.Wanted.{Wanted}
 use Rattle.cond_tree.specs.declared.members.Wanted.TheVariants as wanted
-use Rattle.cond_tree.specs.Trees.{Layer, text_of, alone, one_or_list, is_key, only, beside_name}
+use Rattle.udb_base.specs.Lists.{one}
+use Rattle.yaml_spec.specs.Trees.{Layer, text_of}
+use Rattle.cond_tree.specs.Values.{one_or_list, is_key, only, beside_name}
 
 -- ---- requirements
 
@@ -28,7 +30,7 @@ if_compares _ r = None
 
 -- one version, with or without `=`
 abbrev pub exact_at : Tree → Option (List Requirement)
-exact_at t = alone (option_and_then (λ r. if_compares r.compare r) (requirement_at t))
+exact_at t = one (option_and_then (λ r. if_compares r.compare r) (requirement_at t))
 
 -- what stands under `version`
 abbrev pub needs_by : Wanted → Tree → Option (List Requirement)
@@ -37,43 +39,41 @@ needs_by wanted.One = exact_at
 
 -- ---- members
 
-abbrev pub named : Tree → Option (List Requirement) → Option Member
-named x needs = option_and_then (λ s. option_map (λ rs. record { name = s; needs = rs }) needs) (text_of x)
+-- the name under `name`, with requirements where they can be read
+abbrev pub member_named : Tree → Option (List Requirement) → Option Member
+member_named x needs = option_and_then (λ s. option_map (λ rs. record { name = s; needs = rs }) needs) (text_of x)
 
 -- `name` alone
 abbrev pub name_alone : Pair → Option Member
-name_alone p = if is_key (codes "name") p then named p.value (Some []) else None
+name_alone p = if is_key (codes "name") p then member_named p.value (Some []) else None
 
 -- `name` beside `version`
-abbrev pub versioned : (Tree → Option (List Requirement)) → Tree → Pair → Option Member
-versioned read x p = if is_key (codes "version") p then named x (read p.value) else None
+abbrev pub name_beside : Wanted → Tree → Pair → Option Member
+name_beside w x p = if is_key (codes "version") p then member_named x (needs_by w p.value) else None
 
-abbrev pub with_version : (Tree → Option (List Requirement)) → List Pair → Option Member
-with_version read ps = option_and_then (λ x. versioned read x.0 x.1) (beside_name ps)
+abbrev pub with_version : Wanted → List Pair → Option Member
+with_version w ps = option_and_then (λ x. name_beside w x.0 x.1) (beside_name ps)
 
-abbrev pub one_or_two : (Tree → Option (List Requirement)) → List Pair → Option Pair → Option Member
-one_or_two read ps (Some p) = name_alone p
-one_or_two read ps None = with_version read ps
+abbrev pub one_or_two : Wanted → List Pair → Option Pair → Option Member
+one_or_two w ps (Some p) = name_alone p
+one_or_two w ps None = with_version w ps
 
-abbrev pub member_layer : (Tree → Option (List Requirement)) → Layer → Option Member
-member_layer read (Tree-F.Text s) = Some (record { name = s; needs = [] })
-member_layer read (Tree-F.Map ps) = one_or_two read ps (only ps)
-member_layer read _ = None
+abbrev pub member_in : Wanted → List Pair → Option Member
+member_in w ps = one_or_two w ps (only ps)
+
+abbrev pub member_layer : Wanted → Layer → Option Member
+member_layer w (Tree-F.Text s) = Some (record { name = s; needs = [] })
+member_layer w (Tree-F.Map ps) = member_in w ps
+member_layer w _ = None
 
 -- a name, or a map with `name` and, optionally, `version`
-unfoldable pub member_by : (Tree → Option (List Requirement)) → Tree → Option Member
-member_by read t = member_layer read (out-Tree t)
-
-abbrev pub member_of : Tree → Option Member
-member_of t = member_by requirements_of t
+unfoldable pub member_by : Wanted → Tree → Option Member
+member_by w t = member_layer w (out-Tree t)
 
 -- the members of a list of mandatory or prohibited extensions
 abbrev pub members_of : Tree → Option (List Member)
-members_of t = one_or_list member_of t
+members_of t = one_or_list (member_by wanted.Any) t
 
--- a member of a list of implemented extensions: its version is one version
-abbrev pub exact_of : Tree → Option Member
-exact_of t = member_by exact_at t
-
+-- the members of a list of implemented extensions: the version of each is one version
 abbrev pub implemented_of : Tree → Option (List Member)
-implemented_of t = one_or_list exact_of t
+implemented_of t = one_or_list (member_by wanted.One) t

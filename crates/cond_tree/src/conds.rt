@@ -1,12 +1,13 @@
 //! Conditions.
 
-ghost use Rattle.std.specs.Prelude.{◌≡◌, Some, IfOk, option_map, option_and_then};
-ghost use Rattle.cond_tree.specs.Trees as trees;
+ghost use Rattle.std.specs.Prelude.{◌≡◌, IfOk, option_map};
+ghost use Rattle.udb_base.specs.Lists as lists;
+ghost use Rattle.cond_tree.specs.Values as values;
 ghost use Rattle.cond_tree.specs.Conds as spec;
 
 use crate::forms::{Form, Join};
 use crate::members::{Wanted, member_by};
-use crate::trees::{beside_name, entries_of, few, only, read_value, text_of};
+use crate::values::{beside_name, few_items, only, read_value};
 use entry_tree::Member;
 use std::alloc::Global;
 use udb_base::{Boxed, Cond, Conds, Many, Name, NoMemory, Test, Value};
@@ -51,8 +52,8 @@ fn is_testable(test: Test, value: &Value) -> bool
     }
 }
 
-fn tested(alloc: Global, name: &str, test: Test, value: Value) -> Result<Option<Cond>, NoMemory>
-    ensures { IfOk result (λ r. r ≡ spec.tested name.now test value) }
+fn param_cond(alloc: Global, name: &str, test: Test, value: Value) -> Result<Option<Cond>, NoMemory>
+    ensures { IfOk result (λ r. r ≡ spec.param_cond name.now test value) }
 {
     if is_testable(test, &value) {
         Ok(Some(Cond::Param {
@@ -65,11 +66,16 @@ fn tested(alloc: Global, name: &str, test: Test, value: Value) -> Result<Option<
     }
 }
 
-fn tested_with(alloc: Global, name: &str, test: Test, tree: &Tree) -> Result<Option<Cond>, NoMemory>
-    ensures { IfOk result (λ r. r ≡ option_and_then (spec.tested name.now test) (trees.value_of tree.now)) }
+fn param_cond_with(
+    alloc: Global,
+    name: &str,
+    test: Test,
+    tree: &Tree,
+) -> Result<Option<Cond>, NoMemory>
+    ensures { IfOk result (λ r. r ≡ spec.param_cond_with name.now test tree.now) }
 {
     match read_value(alloc, tree)? {
-        Some(value) => tested(alloc, name, test, value),
+        Some(value) => param_cond(alloc, name, test, value),
         None => Ok(None),
     }
 }
@@ -77,20 +83,20 @@ fn tested_with(alloc: Global, name: &str, test: Test, tree: &Tree) -> Result<Opt
 fn atom(alloc: Global, name: &Tree, entry: &Pair) -> Result<Option<Cond>, NoMemory>
     ensures { IfOk result (λ r. r ≡ spec.atom_of name.now entry.now) }
 {
-    let Some(name) = text_of(name) else {
+    let Some(name) = name.as_text() else {
         return Ok(None);
     };
     match test_of(entry.key.as_str()) {
-        Some(test) => tested_with(alloc, name, test, &entry.value),
+        Some(test) => param_cond_with(alloc, name, test, &entry.value),
         None => Ok(None),
     }
 }
 
 // The value under `name`, and the other entry.
 fn param_parts(tree: &Tree) -> Option<(&Tree, &Pair)>
-    ensures { option_map (λ x. (x.0.now, x.1.now)) result ≡ option_and_then trees.beside_name (trees.entries_of tree.now) }
+    ensures { option_map (λ x. (x.0.now, x.1.now)) result ≡ spec.param_parts tree.now }
 {
-    match entries_of(tree) {
+    match tree.as_map() {
         Some(entries) => beside_name(entries),
         None => None,
     }
@@ -131,9 +137,9 @@ fn form_in(entry: &Pair) -> Option<(Form, &Tree)>
 }
 
 fn only_entry(tree: &Tree) -> Option<&Pair>
-    ensures { option_map (λ p. p.now) result ≡ option_and_then trees.only (trees.entries_of tree.now) }
+    ensures { option_map (λ p. p.now) result ≡ values.only_entry tree.now }
 {
-    match entries_of(tree) {
+    match tree.as_map() {
         Some(entries) => only(entries),
         None => None,
     }
@@ -158,7 +164,7 @@ fn join(join: Join, parts: Conds) -> Cond
     }
 }
 
-fn joined(kind: Join, parts: Option<Conds>) -> Option<Cond>
+fn join_if_any(kind: Join, parts: Option<Conds>) -> Option<Cond>
     ensures { result ≡ option_map (spec.join_of kind) parts }
 {
     match parts {
@@ -167,7 +173,7 @@ fn joined(kind: Join, parts: Option<Conds>) -> Option<Cond>
     }
 }
 
-fn negated(alloc: Global, part: Option<Cond>) -> Result<Option<Cond>, NoMemory>
+fn negation(alloc: Global, part: Option<Cond>) -> Result<Option<Cond>, NoMemory>
     ensures { IfOk result (λ r. r ≡ option_map Cond.Not part) }
 {
     match part {
@@ -184,9 +190,9 @@ fn extension(member: Member) -> Cond
 }
 
 #[cycle(conds)]
-#[tactic(auto, using(crate::proofs::TreeLaws::joined_steps))]
+#[tactic(auto, using(udb_base::specs::Lists::part_steps))]
 fn each_cond(alloc: Global, items: &[Tree], depth: u32) -> Result<Option<Conds>, NoMemory>
-    ensures { IfOk result (λ r. r ≡ trees.each (spec.cond_of depth) items.now) }
+    ensures { IfOk result (λ r. r ≡ lists.each (spec.cond_of depth) items.now) }
 {
     let mut parts = Many::new(alloc);
     for item in items {
@@ -202,7 +208,7 @@ fn each_cond(alloc: Global, items: &[Tree], depth: u32) -> Result<Option<Conds>,
 fn parts_of(alloc: Global, tree: &Tree, depth: u32) -> Result<Option<Conds>, NoMemory>
     ensures { IfOk result (λ r. r ≡ spec.parts_of (spec.cond_of depth) tree.now) }
 {
-    match few(tree) {
+    match few_items(tree) {
         Some(parts) => each_cond(alloc, parts, depth),
         None => Ok(None),
     }
@@ -215,14 +221,14 @@ fn by_form(alloc: Global, form: Form, tree: &Tree, depth: u32) -> Result<Option<
     match form {
         Form::Extension => cond_within(alloc, tree, depth),
         Form::Param => param(alloc, tree),
-        Form::Joined(kind) => Ok(joined(kind, parts_of(alloc, tree, depth)?)),
-        Form::Not => negated(alloc, cond_within(alloc, tree, depth)?),
+        Form::Joined(kind) => Ok(join_if_any(kind, parts_of(alloc, tree, depth)?)),
+        Form::Not => negation(alloc, cond_within(alloc, tree, depth)?),
     }
 }
 
 #[cycle(conds)]
-fn formed(alloc: Global, tree: &Tree, depth: u32) -> Result<Option<Cond>, NoMemory>
-    ensures { IfOk result (λ r. r ≡ spec.formed (spec.cond_of depth) tree.now) }
+fn form_cond(alloc: Global, tree: &Tree, depth: u32) -> Result<Option<Cond>, NoMemory>
+    ensures { IfOk result (λ r. r ≡ spec.form_cond (spec.cond_of depth) tree.now) }
 {
     match form_of(tree) {
         Some((form, value)) => by_form(alloc, form, value, depth),
@@ -240,7 +246,7 @@ fn cond_within(alloc: Global, tree: &Tree, depth: u32) -> Result<Option<Cond>, N
     }
     match member_by(alloc, Wanted::Any, tree)? {
         Some(member) => Ok(Some(extension(member))),
-        None => formed(alloc, tree, depth - 1),
+        None => form_cond(alloc, tree, depth - 1),
     }
 }
 

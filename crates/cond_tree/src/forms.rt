@@ -1,7 +1,7 @@
 //! The forms of conditions that stand round other conditions or a parameter.
 
 /// How a list of conditions is joined.
-#[derive(Clone, Copy, Debug, PartialEq, Eq)]
+#[derive(Clone, Copy)]
 pub enum Join {
     /// `allOf`: each holds.
     All,
@@ -12,7 +12,7 @@ pub enum Join {
 }
 
 /// What the only key of a map says of its value.
-#[derive(Clone, Copy, Debug, PartialEq, Eq)]
+#[derive(Clone, Copy)]
 pub enum Form {
     /// `extension`: a condition.
     Extension,

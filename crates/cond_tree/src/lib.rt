@@ -4,10 +4,8 @@
 mod conds;
 mod forms;
 mod members;
-#[cfg(test)]
-mod tests;
-mod trees;
+mod values;
 
 pub use conds::{DEEPEST, read_cond};
 pub use members::{read_implemented, read_members, read_requirements};
-pub use trees::{read_value, read_version};
+pub use values::read_value;

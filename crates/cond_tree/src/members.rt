@@ -4,10 +4,11 @@ ghost use Rattle.std.specs.Prelude.{◌≡◌, ◌↔◌, [], codes, IfOk};
 ghost use Rattle.udb_base.specs.declared.versions.Requirement.{Requirement};
 ghost use Rattle.udb_spec.specs.Grammar.{SpellsRequirement};
 ghost use Rattle.udb_cond.specs.Requirements.{requirement_of};
-ghost use Rattle.cond_tree.specs.Trees as trees;
+ghost use Rattle.udb_base.specs.Lists as lists;
+ghost use Rattle.cond_tree.specs.Values as values;
 ghost use Rattle.cond_tree.specs.Members as spec;
 
-use crate::trees::{alone, beside_name, is_name, items_of, only, text_of};
+use crate::values::{beside_name, is_name, one, only};
 use entry_tree::{Member, Members};
 use std::alloc::Global;
 use udb_base::{Compare, Many, Name, NoMemory, Requirement, Requirements};
@@ -15,7 +16,7 @@ use udb_cond::parse_requirement;
 use yaml_spec::{Pair, Tree};
 
 /// What may stand under a member's `version`.
-#[derive(Clone, Copy, Debug, PartialEq, Eq)]
+#[derive(Clone, Copy)]
 pub enum Wanted {
     /// A requirement or a list of requirements.
     Any,
@@ -34,15 +35,15 @@ fn requirement_of(text: &str) -> Option<Requirement>
 fn requirement_at(tree: &Tree) -> Option<Requirement>
     ensures { result ≡ spec.requirement_at tree.now }
 {
-    match text_of(tree) {
+    match tree.as_text() {
         Some(text) => requirement_of(text),
         None => None,
     }
 }
 
-#[tactic(auto, using(crate::proofs::TreeLaws::joined_steps))]
+#[tactic(auto, using(udb_base::specs::Lists::part_steps))]
 fn each_requirement(alloc: Global, items: &[Tree]) -> Result<Option<Requirements>, NoMemory>
-    ensures { IfOk result (λ r. r ≡ trees.each spec.requirement_at items.now) }
+    ensures { IfOk result (λ r. r ≡ lists.each spec.requirement_at items.now) }
 {
     let mut needs = Many::new(alloc);
     for item in items {
@@ -59,9 +60,9 @@ fn each_requirement(alloc: Global, items: &[Tree]) -> Result<Option<Requirements
 pub fn read_requirements(alloc: Global, tree: &Tree) -> Result<Option<Requirements>, NoMemory>
     ensures { IfOk result (λ r. r ≡ spec.requirements_of tree.now) }
 {
-    match items_of(tree) {
+    match tree.as_list() {
         Some(items) => each_requirement(alloc, items),
-        None => alone(alloc, requirement_at(tree)),
+        None => one(alloc, requirement_at(tree)),
     }
 }
 
@@ -78,7 +79,7 @@ fn exact_at(alloc: Global, tree: &Tree) -> Result<Option<Requirements>, NoMemory
     ensures { IfOk result (λ r. r ≡ spec.exact_at tree.now) }
 {
     match requirement_at(tree) {
-        Some(need) => alone(alloc, if_exact(need)),
+        Some(need) => one(alloc, if_exact(need)),
         None => Ok(None),
     }
 }
@@ -92,14 +93,14 @@ fn needs_by(alloc: Global, wanted: Wanted, tree: &Tree) -> Result<Option<Require
     }
 }
 
-fn named(
+fn member_named(
     alloc: Global,
     name: &Tree,
     needs: Option<Requirements>,
 ) -> Result<Option<Member>, NoMemory>
-    ensures { IfOk result (λ r. r ≡ spec.named name.now needs) }
+    ensures { IfOk result (λ r. r ≡ spec.member_named name.now needs) }
 {
-    let Some(text) = text_of(name) else {
+    let Some(text) = name.as_text() else {
         return Ok(None);
     };
     match needs {
@@ -115,44 +116,44 @@ fn name_alone(alloc: Global, entry: &Pair) -> Result<Option<Member>, NoMemory>
     ensures { IfOk result (λ r. r ≡ spec.name_alone entry.now) }
 {
     if is_name(entry) {
-        named(alloc, &entry.value, Some(Many::new(alloc)))
+        member_named(alloc, &entry.value, Some(Many::new(alloc)))
     } else {
         Ok(None)
     }
 }
 
 fn is_version(entry: &Pair) -> bool
-    ensures { result ≡ trees.is_key (codes "version") entry.now }
+    ensures { result ≡ values.is_key (codes "version") entry.now }
 {
     entry.key.as_str() == "version"
 }
 
-fn versioned(
+fn name_beside(
     alloc: Global,
     wanted: Wanted,
     name: &Tree,
     entry: &Pair,
 ) -> Result<Option<Member>, NoMemory>
-    ensures { IfOk result (λ r. r ≡ spec.versioned (spec.needs_by wanted) name.now entry.now) }
+    ensures { IfOk result (λ r. r ≡ spec.name_beside wanted name.now entry.now) }
 {
     if is_version(entry) {
-        named(alloc, name, needs_by(alloc, wanted, &entry.value)?)
+        member_named(alloc, name, needs_by(alloc, wanted, &entry.value)?)
     } else {
         Ok(None)
     }
 }
 
 fn with_version(alloc: Global, wanted: Wanted, entries: &[Pair]) -> Result<Option<Member>, NoMemory>
-    ensures { IfOk result (λ r. r ≡ spec.with_version (spec.needs_by wanted) entries.now) }
+    ensures { IfOk result (λ r. r ≡ spec.with_version wanted entries.now) }
 {
     match beside_name(entries) {
-        Some((name, entry)) => versioned(alloc, wanted, name, entry),
+        Some((name, entry)) => name_beside(alloc, wanted, name, entry),
         None => Ok(None),
     }
 }
 
-fn one_or_two(alloc: Global, wanted: Wanted, entries: &[Pair]) -> Result<Option<Member>, NoMemory>
-    ensures { IfOk result (λ r. r ≡ spec.one_or_two (spec.needs_by wanted) entries.now (trees.only entries.now)) }
+fn member_in(alloc: Global, wanted: Wanted, entries: &[Pair]) -> Result<Option<Member>, NoMemory>
+    ensures { IfOk result (λ r. r ≡ spec.member_in wanted entries.now) }
 {
     match only(entries) {
         Some(entry) => name_alone(alloc, entry),
@@ -170,24 +171,24 @@ fn any_version(alloc: Global, name: &str) -> Result<Member, NoMemory>
 }
 
 /// The extension that a tree names: its name, or a map with `name` and, optionally, `version`.
-#[tactic(auto, using(crate::proofs::TreeLaws::layers), unfolding(crate::specs::Members::member_by))]
+#[tactic(auto, using(yaml_spec::proofs::TreeLaws::layers), unfolding(crate::specs::Members::member_by))]
 pub(crate) fn member_by(
     alloc: Global,
     wanted: Wanted,
     tree: &Tree,
 ) -> Result<Option<Member>, NoMemory>
-    ensures { IfOk result (λ r. r ≡ spec.member_by (spec.needs_by wanted) tree.now) }
+    ensures { IfOk result (λ r. r ≡ spec.member_by wanted tree.now) }
 {
     match tree {
         Tree::Text(name) => Ok(Some(any_version(alloc, name.as_str())?)),
-        Tree::Map(entries) => one_or_two(alloc, wanted, entries.as_slice()),
+        Tree::Map(entries) => member_in(alloc, wanted, entries.as_slice()),
         _ => Ok(None),
     }
 }
 
-#[tactic(auto, using(crate::proofs::TreeLaws::joined_steps))]
+#[tactic(auto, using(udb_base::specs::Lists::part_steps))]
 fn each_member(alloc: Global, wanted: Wanted, items: &[Tree]) -> Result<Option<Members>, NoMemory>
-    ensures { IfOk result (λ r. r ≡ trees.each (spec.member_by (spec.needs_by wanted)) items.now) }
+    ensures { IfOk result (λ r. r ≡ lists.each (spec.member_by wanted) items.now) }
 {
     let mut members = Many::new(alloc);
     for item in items {
@@ -200,11 +201,11 @@ fn each_member(alloc: Global, wanted: Wanted, items: &[Tree]) -> Result<Option<M
 }
 
 fn members_by(alloc: Global, wanted: Wanted, tree: &Tree) -> Result<Option<Members>, NoMemory>
-    ensures { IfOk result (λ r. r ≡ trees.one_or_list (spec.member_by (spec.needs_by wanted)) tree.now) }
+    ensures { IfOk result (λ r. r ≡ values.one_or_list (spec.member_by wanted) tree.now) }
 {
-    match items_of(tree) {
+    match tree.as_list() {
         Some(items) => each_member(alloc, wanted, items),
-        None => alone(alloc, member_by(alloc, wanted, tree)?),
+        None => one(alloc, member_by(alloc, wanted, tree)?),
     }
 }
 

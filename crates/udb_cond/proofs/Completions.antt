@@ -45,7 +45,7 @@ lt-step x y xs ys true e h rest =
     let less : is_lt (ordering_then (nat_cmp x y) (slice_cmp nat_cmp xs ys)) ≡ is_lt (slice_cmp nat_cmp xs ys) = rw (le-ltb x y (omega arith), e) refl in
     rest (sym less ∙ h)
 
-lt-differs : (a b : List ℕ) → name_lt a b ≡ true → same_bytes a b ≡ false
+pub lt-differs : (a b : List ℕ) → name_lt a b ≡ true → same_bytes a b ≡ false
 lt-differs [] [] h = absurd (false≢true h)
 lt-differs [] (y ∷ ys) h = refl
 lt-differs (x ∷ xs) [] h = absurd (false≢true h)

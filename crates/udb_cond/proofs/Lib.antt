@@ -7,4 +7,5 @@ pub mod GrammarLemmas
 pub mod ConstraintLemmas
 pub mod Completions
 pub mod RequirementLemmas
+pub mod PlaceLemmas
 pub mod Splits

@@ -1,3 +1,6 @@
+pub mod Places
+pub mod Open
+pub mod Meaning
 pub mod Parts
 pub mod Tests
 pub mod Steps

@@ -1,11 +1,9 @@
 //! The numbered constraints of a space, a configuration and an asked condition.
 
-ghost use Rattle.std.specs.Prelude.{◌≡◌, ◌∷◌, [], ◌++◌, true, All, IfOk, IfSome, slice_get, if◌then◌else◌};
-ghost use Rattle.udb_base.specs.declared.spaces.Full.{Full};
-ghost use Rattle.udb_spec.specs.Conditions.{holds};
-ghost use Rattle.udb_spec.specs.Spaces.{first_value, Completes};
-ghost use Rattle.udb_spec.specs.Lawful.{Lawful};
-ghost use Rattle.udb_spec.specs.Constraints.{ext_constraint, has_value, needs_constraint, first_constraint, constraints, numbered, IsInDomains};
+ghost use Rattle.std.specs.Prelude.{◌≡◌, ◌∷◌, [], ◌++◌, IfOk, IfSome, slice_get};
+ghost use Rattle.udb_spec.specs.Spaces.{first_value};
+ghost use Rattle.udb_spec.specs.Constraints as spec;
+ghost use Rattle.udb_cond.specs.Meaning.{constraint_of, one_of_two, IsMet, IsEnough};
 
 use std::alloc::Global;
 use udb_base::{
@@ -30,7 +28,7 @@ fn contrary(alloc: Global, cond: &Cond) -> Result<Cond, NoMemory>
 
 // The extension is absent, or its requirements hold.
 fn ext_constraint(alloc: Global, ext: &ExtSpace) -> Result<Cond, NoMemory>
-    ensures { IfOk result (λ c. c ≡ ext_constraint ext.now) }
+    ensures { IfOk result (λ c. c ≡ spec.ext_constraint ext.now) }
 {
     let present = Cond::Ext {
         name: ext.name.copy(alloc)?,
@@ -42,7 +40,7 @@ fn ext_constraint(alloc: Global, ext: &ExtSpace) -> Result<Cond, NoMemory>
 
 // `definedBy` fails, or the requirements hold.
 fn needs_constraint(alloc: Global, param: &ParamSpace) -> Result<Cond, NoMemory>
-    ensures { IfOk result (λ c. c ≡ needs_constraint param.now) }
+    ensures { IfOk result (λ c. c ≡ spec.needs_constraint param.now) }
 {
     let undefined = contrary(alloc, &param.defined)?;
     either(alloc, undefined, param.needs.copy(alloc)?)
@@ -66,7 +64,7 @@ fn first_value(alloc: Global, domain: &Domain) -> Result<Option<Value>, NoMemory
 }
 
 fn has_value(alloc: Global, name: &Name, value: Option<Value>) -> Result<Cond, NoMemory>
-    ensures { IfOk result (λ c. c ≡ has_value name.now value) }
+    ensures { IfOk result (λ c. c ≡ spec.has_value name.now value) }
 {
     match value {
         Some(value) => Ok(Cond::Param {
@@ -80,7 +78,7 @@ fn has_value(alloc: Global, name: &Name, value: Option<Value>) -> Result<Cond, N
 
 // `definedBy` holds, or the parameter has its first value.
 fn first_constraint(alloc: Global, param: &ParamSpace) -> Result<Cond, NoMemory>
-    ensures { IfOk result (λ c. c ≡ first_constraint param.now) }
+    ensures { IfOk result (λ c. c ≡ spec.first_constraint param.now) }
 {
     let first = first_value(alloc, &param.domain)?;
     let has_first = has_value(alloc, &param.name, first)?;
@@ -89,7 +87,7 @@ fn first_constraint(alloc: Global, param: &ParamSpace) -> Result<Cond, NoMemory>
 
 // The constraint at an index of those of the parameters, two for each.
 fn param_constraint(alloc: Global, param: &ParamSpace, second: bool) -> Result<Cond, NoMemory>
-    ensures { IfOk result (λ c. c ≡ (if second then first_constraint param.now else needs_constraint param.now)) }
+    ensures { IfOk result (λ c. c ≡ one_of_two second param.now) }
 {
     if second {
         first_constraint(alloc, param)
@@ -124,7 +122,7 @@ fn numbered_constraint(
     cond: &Cond,
     number: u32,
 ) -> Result<Option<Cond>, NoMemory>
-    ensures { IfOk result (λ found. found ≡ numbered (constraints space.now part.now cond.now) number) }
+    ensures { IfOk result (λ c. c ≡ constraint_of space.now part.now cond.now number) }
 {
     if number == 0 {
         return Ok(None);
@@ -145,7 +143,7 @@ fn numbered_constraint(
 /// The constraint of a number, counted from 1: for each extension that it is absent or its
 /// requirements hold; for each parameter that its `definedBy` fails or its requirements hold, then
 /// that its `definedBy` holds or it has its first value; those of the configuration; the asked
-/// condition. None for 0 and past the last.
+/// condition. None for 0 and past the last. The one refusal is want of memory.
 pub fn constraint(
     alloc: Global,
     space: &Space,
@@ -153,16 +151,13 @@ pub fn constraint(
     cond: &Cond,
     number: u32,
 ) -> Result<Option<Cond>, NoMemory>
-    ensures numbered { IfOk result (λ found. found ≡ numbered (constraints space.now part.now cond.now) number) }
+    ensures numbered { IfOk result (λ c. c ≡ constraint_of space.now part.now cond.now number) }
 
     // Each holds in every completion that meets the asked condition.
-    ensures met { IfOk result (λ found. IfSome found (λ c. (full : Full) → Lawful space.now
-        → Completes space.now part.now full → holds space.now full cond.now ≡ true → holds space.now full c ≡ true)) }
+    ensures met { IfOk result (λ found. IfSome found (IsMet space.now part.now cond.now)) }
 
     // Where all hold, the full configuration is such a completion.
-    ensures enough { (full : Full) → Lawful space.now → IsInDomains space.now full
-        → All (λ c. holds space.now full c ≡ true) (constraints space.now part.now cond.now)
-        → Completes space.now part.now full × (holds space.now full cond.now ≡ true) }
+    ensures enough { IsEnough space.now part.now cond.now }
 {
     numbered_constraint(alloc, space, part, cond, number)
 }

@@ -120,7 +120,8 @@ fn version(text: &[u8]) -> Option<Version>
 }
 
 /// The version that a text spells: one to three decimal numbers of one to nine digits, joined by
-/// dots; missing parts are 0. A number has no zero before other digits.
+/// dots; missing parts are 0. A number has no zero before other digits. `BadVersion` is answered
+/// exactly where the text is none. It takes no memory.
 pub fn parse_version(text: &str) -> Result<Version, BadVersion>
     ensures { result_ok result ≡ version_of text.now }
 {
@@ -187,7 +188,8 @@ fn requirement(text: &[u8]) -> Option<Requirement>
 }
 
 /// The requirement that a text spells: one of `=`, `!=`, `>`, `>=`, `<`, `<=` and `~>`, any number
-/// of spaces, and a version; or a version alone, which is then to be equal.
+/// of spaces, and a version; or a version alone, which is then to be equal. `BadRequirement` is
+/// answered exactly where the text is none. It takes no memory.
 pub fn parse_requirement(text: &str) -> Result<Requirement, BadRequirement>
     ensures spelled { IfOk result (SpellsRequirement text.now) }
     ensures exact { (r : Requirement) → SpellsRequirement text.now r → result ≡ Ok r }

@@ -6,16 +6,16 @@ mod atoms;
 mod cells;
 mod constraints;
 mod grammar;
+mod lookups;
 mod partial_truth;
 mod ranges;
-#[cfg(test)]
-mod tests;
 mod truth;
 mod versions;
 
 pub use cells::Cells;
 pub use constraints::constraint;
 pub use grammar::{BadRequirement, BadVersion, parse_requirement, parse_version};
+pub use lookups::{extension_place, mxlen, number_or, param_place, value_of};
 pub use partial_truth::holds3;
 pub use truth::holds;
 pub use udb_base::{
@@ -23,4 +23,4 @@ pub use udb_base::{
     ListedVersions, Numbers, ParamSpace, ParamSpaces, Partial, Proof, Proofs, Requirement,
     Requirements, Space, Test, Value, Values, Version, Words,
 };
-pub use versions::meets;
+pub use versions::{is_below, meets};

@@ -1,13 +1,13 @@
 //! What is known of a condition where choices are still open.
 
 ghost use Rattle.std.specs.Option.{ForSome};
-ghost use Rattle.std.specs.Prelude.{◌≡◌, ◌≤◌, ◌∷◌, [], ◌||◌, ◌&&◌, true, false, not, map, if◌then◌else◌};
-ghost use Rattle.udb_base.specs.declared.spaces.Full.{Full};
-ghost use Rattle.udb_base.specs.declared.conditions.Value.TheVariants.{Flag, Number, Word};
-ghost use Rattle.udb_spec.specs.Conditions.{choice_meets, passes, holds};
-ghost use Rattle.udb_spec.specs.Cells.{Within, ext_cells, param_cells, numbers_of, kept};
-ghost use Rattle.udb_spec.specs.Known.{known, known_over, ext_known, param_known, all_known, any_known, one_known};
+ghost use Rattle.std.specs.Prelude.{◌≡◌, ◌≤◌, ◌||◌, ◌&&◌, true, false, not, map};
+ghost use Rattle.udb_base.specs.declared.conditions.Value.TheVariants.{Number, Word};
+ghost use Rattle.udb_spec.specs.Cells.{numbers_of};
+ghost use Rattle.udb_spec.specs.Known.{known, ext_known, all_known, any_known, one_known};
+ghost use Rattle.udb_cond.specs.Open.{test_over, test_at, test_in, needs_over, param_atom, HasTruth};
 ghost use Rattle.udb_cond.specs.Steps.{steps_of};
+ghost use Rattle.udb_cond.specs.Tests.{flags};
 ghost use Rattle.udb_cond.specs.Tally.{verdict, one_by};
 
 use crate::atoms::{choice_meets, flag_passes, number_passes, word_passes};
@@ -54,7 +54,7 @@ impl Tally {
 
 // The atom of an extension, by the choices that are left of it.
 fn choices_known(cells: &Cells, place: usize, ext: &ExtSpace, needs: &[Requirement]) -> Known
-    ensures { result ≡ known_over (map (choice_meets ext.now.versions needs.now) (ext_cells (steps_of cells.now) place ext.now)) }
+    ensures { result ≡ needs_over (steps_of cells.now) place ext.now needs.now }
 {
     let versions = ext.versions.as_slice();
     let mut tally = Tally::NOTHING.with(is_open(cells, false, place, 0), false);
@@ -79,7 +79,7 @@ fn ext_known(space: &Space, name: &Name, needs: &[Requirement], cells: &Cells) -
 
 #[tactic(auto, using(crate::proofs::TallyLemmas::tally_laws))]
 fn flags_known(cells: &Cells, place: usize, test: Test, given: &Value) -> Known
-    ensures { result ≡ known_over (map (λ x. passes test x given.now) (kept (steps_of cells.now) true place 0 (Flag false ∷ Flag true ∷ []))) }
+    ensures { result ≡ test_at (steps_of cells.now) place test given.now flags }
 {
     let counts = is_open(cells, true, place, 0);
     let tally = Tally::NOTHING.with(counts, flag_passes(test, false, given));
@@ -88,7 +88,7 @@ fn flags_known(cells: &Cells, place: usize, test: Test, given: &Value) -> Known
 }
 
 fn numbers_known(cells: &Cells, place: usize, numbers: &[u64], test: Test, given: &Value) -> Known
-    ensures { result ≡ known_over (map (λ x. passes test x given.now) (kept (steps_of cells.now) true place 0 (map Number numbers.now))) }
+    ensures { result ≡ test_at (steps_of cells.now) place test given.now (map Number numbers.now) }
 {
     let mut tally = Tally::NOTHING;
     for (at, number) in numbers.iter().enumerate() {
@@ -99,7 +99,7 @@ fn numbers_known(cells: &Cells, place: usize, numbers: &[u64], test: Test, given
 }
 
 fn words_known(cells: &Cells, place: usize, words: &[Chars], test: Test, given: &Value) -> Known
-    ensures { result ≡ known_over (map (λ x. passes test x given.now) (kept (steps_of cells.now) true place 0 (map Word words.now))) }
+    ensures { result ≡ test_at (steps_of cells.now) place test given.now (map Word words.now) }
 {
     let mut tally = Tally::NOTHING;
     for (at, word) in words.iter().enumerate() {
@@ -112,7 +112,7 @@ fn words_known(cells: &Cells, place: usize, words: &[Chars], test: Test, given: 
 #[tactic(auto, using(crate::proofs::RangeLemmas::range_laws))]
 fn left_known(left: Option<(u64, u64)>, test: Test, given: &Value) -> Known
     requires { ForSome left (λ ends. ends.0 ≤ ends.1) }
-    ensures { result ≡ known_over (map (λ x. passes test x given.now) (map Number (numbers_of left))) }
+    ensures { result ≡ test_over test given.now (map Number (numbers_of left)) }
 {
     match left {
         None => Known::Yes,
@@ -122,7 +122,7 @@ fn left_known(left: Option<(u64, u64)>, test: Test, given: &Value) -> Known
 
 // The atom of a parameter, by the values that are left of it.
 fn values_known(cells: &Cells, place: usize, domain: &Domain, test: Test, given: &Value) -> Known
-    ensures { result ≡ known_over (map (λ x. passes test x given.now) (param_cells (steps_of cells.now) place domain.now)) }
+    ensures { result ≡ test_in (steps_of cells.now) place test given.now domain.now }
 {
     match domain {
         Domain::Flags => flags_known(cells, place, test, given),
@@ -136,7 +136,7 @@ fn values_known(cells: &Cells, place: usize, domain: &Domain, test: Test, given:
 }
 
 fn param_known(space: &Space, name: &Name, test: Test, given: &Value, cells: &Cells) -> Known
-    ensures { result ≡ param_known (steps_of cells.now) 0 space.now.params name.now test given.now }
+    ensures { result ≡ param_atom space.now (steps_of cells.now) name.now test given.now }
 {
     let params = space.params.as_slice();
     for (place, param) in params.iter().enumerate() {
@@ -153,7 +153,7 @@ fn all_known(space: &Space, conds: &[Cond], cells: &Cells) -> Known
 {
     let mut undecided = false;
     for cond in conds {
-        match known(space, cond, cells) {
+        match truth_within(space, cond, cells) {
             Known::Yes => {}
             Known::No => return Known::No,
             Known::Unknown => undecided = true,
@@ -172,7 +172,7 @@ fn any_known(space: &Space, conds: &[Cond], cells: &Cells) -> Known
 {
     let mut undecided = false;
     for cond in conds {
-        match known(space, cond, cells) {
+        match truth_within(space, cond, cells) {
             Known::Yes => return Known::Yes,
             Known::No => {}
             Known::Unknown => undecided = true,
@@ -201,7 +201,7 @@ fn one_known(space: &Space, conds: &[Cond], cells: &Cells) -> Known
     let mut holding: usize = 0;
     let mut undecided = false;
     for cond in conds {
-        match known(space, cond, cells) {
+        match truth_within(space, cond, cells) {
             Known::Yes => holding += 1,
             Known::No => {}
             Known::Unknown => undecided = true,
@@ -212,7 +212,7 @@ fn one_known(space: &Space, conds: &[Cond], cells: &Cells) -> Known
 
 #[cycle(partial_truth)]
 #[tactic(auto, using(crate::proofs::KnownLemmas::known_laws))]
-fn known(space: &Space, cond: &Cond, cells: &Cells) -> Known
+fn truth_within(space: &Space, cond: &Cond, cells: &Cells) -> Known
     ensures { result ≡ known space.now (steps_of cells.now) cond.now }
 {
     match cond {
@@ -223,7 +223,7 @@ fn known(space: &Space, cond: &Cond, cells: &Cells) -> Known
         Cond::All(parts) => all_known(space, parts.as_slice(), cells),
         Cond::Any(parts) => any_known(space, parts.as_slice(), cells),
         Cond::One(parts) => one_known(space, parts.as_slice(), cells),
-        Cond::Not(part) => not_known(known(space, part.get(), cells)),
+        Cond::Not(part) => not_known(truth_within(space, part.get(), cells)),
     }
 }
 
@@ -232,8 +232,8 @@ fn known(space: &Space, cond: &Cond, cells: &Cells) -> Known
 /// variable that the space doesn't have is No.
 pub fn holds3(space: &Space, cond: &Cond, cells: &Cells) -> Known
     ensures answer { result ≡ known space.now (steps_of cells.now) cond.now }
-    ensures yes { result ≡ Known.Yes → (full : Full) → Within space.now (steps_of cells.now) full → holds space.now full cond.now ≡ true }
-    ensures no { result ≡ Known.No → (full : Full) → Within space.now (steps_of cells.now) full → holds space.now full cond.now ≡ false }
+    ensures yes { result ≡ Known.Yes → HasTruth space.now (steps_of cells.now) cond.now true }
+    ensures no { result ≡ Known.No → HasTruth space.now (steps_of cells.now) cond.now false }
 {
-    known(space, cond, cells)
+    truth_within(space, cond, cells)
 }

@@ -1,12 +1,11 @@
 //! What an atom says of all the numbers of a range.
 
-ghost use Rattle.std.specs.Prelude.{◌≡◌, ◌≤◌, ◌+◌, ◌-◌, false, map};
-ghost use Rattle.std.specs.List.{range_with_len};
+ghost use Rattle.std.specs.Prelude.{◌≡◌, ◌≤◌};
 ghost use Rattle.udb_base.specs.declared.conditions.Value.TheVariants.{Number};
 ghost use Rattle.udb_base.specs.declared.conditions.Test.TheVariants as t;
-ghost use Rattle.udb_spec.specs.Conditions.{passes};
-ghost use Rattle.udb_spec.specs.Known.{known_over, not_known};
-ghost use Rattle.udb_cond.specs.Tests.{equality};
+ghost use Rattle.udb_spec.specs.Known.{not_known};
+ghost use Rattle.udb_cond.specs.Open.{test_over_range};
+ghost use Rattle.udb_cond.specs.Tests.{equality_over_range};
 
 use crate::atoms::equality;
 use udb_base::{Known, Test, Value};
@@ -23,7 +22,7 @@ pub(crate) fn not_known(known: Known) -> Known
 
 fn equal_known(low: u64, high: u64, given: u64) -> Known
     requires { low ≤ high }
-    ensures { result ≡ known_over (map (λ n. passes t.Equal (Number n) (Number given)) (range_with_len low (high + 1 - low))) }
+    ensures { result ≡ test_over_range low high t.Equal (Number given) }
 {
     if given < low {
         Known::No
@@ -38,7 +37,7 @@ fn equal_known(low: u64, high: u64, given: u64) -> Known
 
 fn below_known(low: u64, high: u64, given: u64) -> Known
     requires { low ≤ high }
-    ensures { result ≡ known_over (map (λ n. passes t.Below (Number n) (Number given)) (range_with_len low (high + 1 - low))) }
+    ensures { result ≡ test_over_range low high t.Below (Number given) }
 {
     if high < given {
         Known::Yes
@@ -51,7 +50,7 @@ fn below_known(low: u64, high: u64, given: u64) -> Known
 
 fn at_most_known(low: u64, high: u64, given: u64) -> Known
     requires { low ≤ high }
-    ensures { result ≡ known_over (map (λ n. passes t.AtMost (Number n) (Number given)) (range_with_len low (high + 1 - low))) }
+    ensures { result ≡ test_over_range low high t.AtMost (Number given) }
 {
     if high <= given {
         Known::Yes
@@ -64,28 +63,28 @@ fn at_most_known(low: u64, high: u64, given: u64) -> Known
 
 fn not_equal_known(low: u64, high: u64, given: u64) -> Known
     requires { low ≤ high }
-    ensures { result ≡ known_over (map (λ n. passes t.NotEqual (Number n) (Number given)) (range_with_len low (high + 1 - low))) }
+    ensures { result ≡ test_over_range low high t.NotEqual (Number given) }
 {
     not_known(equal_known(low, high, given))
 }
 
 fn at_least_known(low: u64, high: u64, given: u64) -> Known
     requires { low ≤ high }
-    ensures { result ≡ known_over (map (λ n. passes t.AtLeast (Number n) (Number given)) (range_with_len low (high + 1 - low))) }
+    ensures { result ≡ test_over_range low high t.AtLeast (Number given) }
 {
     not_known(below_known(low, high, given))
 }
 
 fn above_known(low: u64, high: u64, given: u64) -> Known
     requires { low ≤ high }
-    ensures { result ≡ known_over (map (λ n. passes t.Above (Number n) (Number given)) (range_with_len low (high + 1 - low))) }
+    ensures { result ≡ test_over_range low high t.Above (Number given) }
 {
     not_known(at_most_known(low, high, given))
 }
 
 fn number_known(low: u64, high: u64, test: Test, given: u64) -> Known
     requires { low ≤ high }
-    ensures { result ≡ known_over (map (λ n. passes test (Number n) (Number given)) (range_with_len low (high + 1 - low))) }
+    ensures { result ≡ test_over_range low high test (Number given) }
 {
     match test {
         Test::Equal => equal_known(low, high, given),
@@ -99,7 +98,7 @@ fn number_known(low: u64, high: u64, test: Test, given: u64) -> Known
 
 fn other_known(low: u64, high: u64, test: Test) -> Known
     requires { low ≤ high }
-    ensures { result ≡ known_over (map (λ n. equality test false) (range_with_len low (high + 1 - low))) }
+    ensures { result ≡ equality_over_range low high test }
 {
     if equality(test, false) {
         Known::Yes
@@ -111,7 +110,7 @@ fn other_known(low: u64, high: u64, test: Test) -> Known
 /// What is known of an atom where its parameter has any number from `low` to `high`.
 pub(crate) fn range_known(low: u64, high: u64, test: Test, given: &Value) -> Known
     requires { low ≤ high }
-    ensures { result ≡ known_over (map (λ n. passes test (Number n) given.now) (range_with_len low (high + 1 - low))) }
+    ensures { result ≡ test_over_range low high test given.now }
 {
     match given {
         Value::Flag(_) => other_known(low, high, test),

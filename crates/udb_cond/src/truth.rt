@@ -2,10 +2,10 @@
 
 ghost use Rattle.std.specs.Prelude.{◌≡◌, map, count_by};
 ghost use Rattle.std.specs.List.{list_all, list_any};
-ghost use Rattle.std.specs.Option.{option_copied};
 ghost use Rattle.udb_spec.specs.Conditions.{present_among, value_of, option_passes, holds};
 
 use crate::atoms::{choice_meets, value_passes};
+use crate::lookups::value_of;
 use udb_base::{Cond, Full, Name, Requirement, Space, Test, Value};
 
 // Whether the named extension is present in a version that meets each requirement.
@@ -26,24 +26,10 @@ fn is_present(space: &Space, full: &Full, name: &Name, needs: &[Requirement]) ->
     false
 }
 
-#[tactic(auto, using(crate::proofs::TruthLemmas::value_steps))]
-fn value_of<'a>(space: &Space, full: &'a Full, name: &Name) -> Option<&'a Value>
-    ensures { option_copied result ≡ value_of space.now full.now name.now }
-{
-    let params = space.params.as_slice();
-    let values = full.params.as_slice();
-    for (place, param) in params.iter().enumerate() {
-        if param.name == *name {
-            return values.get(place);
-        }
-    }
-    None
-}
-
 fn has_value(space: &Space, full: &Full, name: &Name, test: Test, given: &Value) -> bool
     ensures { result ≡ option_passes test (value_of space.now full.now name.now) given.now }
 {
-    match value_of(space, full, name) {
+    match value_of(space, full, name.as_str()) {
         Some(value) => value_passes(test, value, given),
         None => false,
     }

@@ -11,8 +11,8 @@ fn is_same(a: &Version, b: &Version) -> bool
     a.major == b.major && (a.minor == b.minor && a.patch == b.patch)
 }
 
-// Versions compare part by part.
-fn is_below(a: &Version, b: &Version) -> bool
+/// Whether a version comes before another: versions compare part by part, the first part first.
+pub fn is_below(a: &Version, b: &Version) -> bool
     ensures { result ≡ version_lt a.now b.now }
 {
     a.major < b.major

@@ -27,8 +27,7 @@ use Rattle.udb_entry.specs.declared.answers.EntryFault.{EntryFault}
 use Rattle.udb_entry.specs.declared.answers.EntryFault.TheVariants.{Memory, Broken}
 use Rattle.udb_entry.specs.Schemas.{schema_of}
 use Rattle.udb_entry.specs.Entries.{entry_of}
-use Rattle.udb_entry.specs.Rules.{Lines}
-use Rattle.udb_entry.specs.First.{fault_line, word_text, breach, first_of, rules_of, FirstBroken, unspelled, unfit, wrong, Gives, IsAnswer}
+use Rattle.udb_entry.specs.First.{fault_line, word_text, breach, first_of, rules_of, FirstBroken, unspelled, unfit, wrong, Gives, fault_of, IsOrMemory, IsAnswer}
 use Rattle.udb_entry.specs.Parts.{IsUnspelled, IsUnfit, IsExamined, IsKept}
 
 -- ---- the line of a text that spells no tree
@@ -100,8 +99,8 @@ kept_none row t x b same h g = let e : None ≡ Some b = sym h ∙ (ap (λ y. fi
 
 pub gives_unbroken : (row : Row) (e : Entry) (b : Breach) → Gives row e → FirstBroken row b → ⊥
 gives_unbroken row e b gives (unspelled n o l h is) = least_none (lines_of row.text) n gives.tree l gives.spelled
-gives_unbroken row e b gives (unfit x p u s h is) = met_refuted (schema_of row.kind) x gives.tree p u (spells_one (lines_of row.text) x gives.tree s gives.spelled) h gives.fits
-gives_unbroken row e b gives (wrong x s m h) = kept_none row gives.tree x b (spells_one (lines_of row.text) gives.tree x gives.spelled s) gives.kept h
+gives_unbroken row e b gives (unfit x p u s h is) = met_refuted (schema_of row.kind) x gives.tree p u (spells_one (lines_of row.text) x gives.tree s gives.spelled) h gives.meets_schema
+gives_unbroken row e b gives (wrong x s m h) = kept_none row gives.tree x b (spells_one (lines_of row.text) gives.tree x gives.spelled s) gives.unbroken h
 
 pub gives_one : (row : Row) (e d : Entry) → Gives row e → Gives row d → e ≡ d
 gives_one row e d g h = g.is ∙ (ap (entry_of row.kind) (spells_one (lines_of row.text) g.tree h.tree g.spelled h.spelled) ∙ sym h.is)
@@ -111,21 +110,18 @@ gives_one row e d g h = g.is ∙ (ap (entry_of row.kind) (spells_one (lines_of r
 pub answer_given : (row : Row) (r : Result Entry EntryFault) (e : Entry) → IsAnswer row r → r ≡ Ok e → Gives row e
 answer_given row r e a is = subst (IsAnswer row) is a
 
-pub answer_only : (row : Row) (r : Result Entry EntryFault) (e : Entry) → IsAnswer row r → Gives row e → (r ≡ Ok e) ⊎ (r ≡ Err Memory)
+pub answer_only : (row : Row) (r : Result Entry EntryFault) (e : Entry) → IsAnswer row r → Gives row e → IsOrMemory (Ok e) r
 answer_only row (Ok d) e a g = inl (ap Ok (gives_one row d e a g))
 answer_only row (Err Memory) e a g = inr refl
 answer_only row (Err (Broken rule shows)) e a g = absurd (gives_unbroken row e (breach rule shows) g a)
 
-pub answer_broken : (row : Row) (r : Result Entry EntryFault) (rule : ℕ) (shows : Lines) → IsAnswer row r → r ≡ Err (Broken rule shows) → FirstBroken row (breach rule shows)
-answer_broken row r rule shows a is = subst (IsAnswer row) is a
+pub answer_broken : (row : Row) (r : Result Entry EntryFault) (b : Breach) → IsAnswer row r → r ≡ Err (fault_of b) → FirstBroken row b
+answer_broken row r b a is = subst (IsAnswer row) is a
 
-fault_of : Breach → EntryFault
-fault_of b = Broken b.rule b.shows
-
-pub answer_broken_only : (row : Row) (r : Result Entry EntryFault) (rule : ℕ) (shows : Lines) → IsAnswer row r → FirstBroken row (breach rule shows) → (r ≡ Err (Broken rule shows)) ⊎ (r ≡ Err Memory)
-answer_broken_only row (Ok d) rule shows a f = absurd (gives_unbroken row d (breach rule shows) a f)
-answer_broken_only row (Err Memory) rule shows a f = inr refl
-answer_broken_only row (Err (Broken n ls)) rule shows a f = inl (ap (λ b. Err (Broken b.rule b.shows)) (broken_one row (breach n ls) (breach rule shows) a f))
+pub answer_broken_only : (row : Row) (r : Result Entry EntryFault) (b : Breach) → IsAnswer row r → FirstBroken row b → IsOrMemory (Err (fault_of b)) r
+answer_broken_only row (Ok d) b a f = absurd (gives_unbroken row d b a f)
+answer_broken_only row (Err Memory) b a f = inr refl
+answer_broken_only row (Err (Broken n ls)) b a f = inl (ap (λ x. Err (fault_of x)) (broken_one row (breach n ls) b a f))
 
 -- ---- parts of answers
 
@@ -151,11 +147,11 @@ examined_answer row t Memory h s = tt
 examined_answer row t (Broken rule shows) h s = unfit t h.0 h.1 s h.2 h.3
 
 pub kept_answer : (row : Row) (t : Tree) (r : Result Entry EntryFault) → IsKept row t r → meets (schema_of row.kind) t ≡ true → Spelled row.text t → IsAnswer row r
-kept_answer row t (Ok e) h m s = record { tree = t; spelled = s; fits = m; kept = h.0; is = h.1 }
+kept_answer row t (Ok e) h m s = record { tree = t; spelled = s; meets_schema = m; unbroken = h.0; is = h.1 }
 kept_answer row t (Err Memory) h m s = tt
 kept_answer row t (Err (Broken rule shows)) h m s = wrong t s m h
 
--- ---- the same of the calls of `read` and `examined`
+-- ---- the same of the calls of `read` and `examine`
 
 pub spelled_at : (row : Row) (text : List ℕ) (t : Tree) (r : Result Entry EntryFault) → text ≡ row.text → Spelled text t → (Spelled row.text t → IsAnswer row r) → IsAnswer row r
 spelled_at row text t r same s h = h (subst (λ z. Spelled z t) same s)

@@ -1,2 +1,3 @@
-pub mod AnswerLemmas
 pub mod EntryLemmas
+pub mod AnswerLemmas
+pub mod GivenLaws

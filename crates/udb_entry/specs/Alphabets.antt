@@ -3,7 +3,7 @@ use Rattle.std.specs.Prelude.{◌==◌, ◌&&◌, ◌||◌, Bool, false, not, �
 use Rattle.std.specs.List.{list_all, list_any}
 use Rattle.std.specs.Str.{bytes_eq}
 use Rattle.udb_base.specs.declared.kinds.Kind.{Kind}
-use Rattle.udb_base.specs.declared.kinds.Kind.TheVariants.{Extension, Parameter}
+use Rattle.udb_base.specs.declared.kinds.Kind.TheVariants.{Extension, Parameter, Instruction, Csr, Functions, Config}
 use Rattle.idl_token.specs.Spelling.{reserved_text, reserved_words}
 
 abbrev pub is_upper : ℕ → Bool
@@ -26,16 +26,26 @@ abbrev pub begins : (ℕ → Bool) → List ℕ → Bool
 begins test [] = false
 begins test (b ∷ bs) = test b
 
--- at most 64 letters, digits and `_`, of which the first passes
+-- the names of instructions also have `.`
+abbrev pub is_instruction_byte : ℕ → Bool
+is_instruction_byte b = is_word_byte b || (b == 46)
+
+-- at most 64 bytes of an alphabet, the first of them in another
+abbrev pub is_word_of : (ℕ → Bool) → (ℕ → Bool) → List ℕ → Bool
+is_word_of first alphabet name = begins first name && (list_all alphabet name && nat_le (length name) 64)
+
 abbrev pub is_word : (ℕ → Bool) → List ℕ → Bool
-is_word first name = begins first name && (list_all is_word_byte name && nat_le (length name) 64)
+is_word first name = is_word_of first is_word_byte name
 
 -- a word of the language of bodies
 unfoldable pub is_reserved : List ℕ → Bool
 is_reserved name = list_any (λ w. bytes_eq name (reserved_text w)) reserved_words
 
--- the name of an entry of a kind
+-- the name of an entry of a kind; instructions, CSRs, functions and configurations begin with a letter of either case
 abbrev pub has_alphabet : Kind → List ℕ → Bool
 has_alphabet Extension name = is_word is_upper name
 has_alphabet Parameter name = is_word is_upper name && not (is_reserved name)
-has_alphabet _ name = is_word is_letter name
+has_alphabet Instruction name = is_word_of is_letter is_instruction_byte name
+has_alphabet Csr name = is_word is_letter name
+has_alphabet Functions name = is_word is_letter name
+has_alphabet Config name = is_word is_letter name

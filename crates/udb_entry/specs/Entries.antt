@@ -1,6 +1,6 @@
 -- The entries that trees give. A missing condition is Always, a missing list is empty; what the schemas rule out gives
 -- what is said of something missing.
-use Rattle.std.specs.Prelude.{Bool, true, false, ℕ, List, [], map, codes, Option, None, Some, is_some, if◌then◌else◌}
+use Rattle.std.specs.Prelude.{true, false, ℕ, List, [], map, codes, Option, Some, is_some, if◌then◌else◌}
 use Rattle.std.specs.Option.{unwrap_or, option_map_or}
 use Rattle.std.specs.Str.{bytes_eq}
 use Rattle.std.specs.Fmt.{signed_decimal}
@@ -13,7 +13,7 @@ use Rattle.udb_base.specs.declared.versions.Listed.{Listed}
 use Rattle.udb_base.specs.declared.conditions.Cond.{Cond}
 use Rattle.udb_base.specs.declared.conditions.Cond.TheVariants.{Always}
 use Rattle.udb_base.specs.declared.conditions.Value.{Value}
-use Rattle.udb_base.specs.declared.conditions.Value.TheVariants.{Flag, Number, Word}
+use Rattle.udb_base.specs.declared.conditions.Value.TheVariants.{Number}
 use Rattle.udb_base.specs.declared.spaces.Domain.{Domain}
 use Rattle.udb_base.specs.declared.spaces.Domain.TheVariants.{Flags, Numbers, Range, Words}
 use Rattle.entry_tree.specs.declared.ConfigKind.{ConfigKind}
@@ -24,7 +24,8 @@ use Rattle.entry_tree.specs.declared.ExtensionEntry.{ExtensionEntry}
 use Rattle.entry_tree.specs.declared.ParamEntry.{ParamEntry}
 use Rattle.entry_tree.specs.declared.ConfigEntry.{ConfigEntry}
 use Rattle.udb_spec.specs.Grammar.{version_of}
-use Rattle.udb_schema.specs.Trees.{flag_of, int_of, text_of}
+use Rattle.yaml_spec.specs.Trees.{int_of}
+use Rattle.cond_tree.specs.Values as values
 use Rattle.cond_tree.specs.Conds.{cond_of}
 use Rattle.cond_tree.specs.Members.{members_of, implemented_of}
 use Rattle.udb_entry.specs.declared.answers.Entry.{Entry}
@@ -34,12 +35,12 @@ use Rattle.udb_entry.specs.Keys.{value_at, pairs_at, items_at, text_at, number_a
 -- ---- versions
 
 -- a text, or a whole number as its decimal digits
-abbrev pub written : Tree → List ℕ
-written t = option_map_or signed_decimal (int_of t) (text_in t)
+abbrev pub scalar_text : Tree → List ℕ
+scalar_text t = option_map_or signed_decimal (int_of t) (text_in t)
 
 -- the text of a listed version
 abbrev pub version_text : Tree → List ℕ
-version_text t = option_map_or written (value_at t (codes "version")) []
+version_text t = option_map_or scalar_text (value_at t (codes "version")) []
 
 abbrev pub version_in : Tree → Option Version
 version_in t = version_of (version_text t)
@@ -87,16 +88,11 @@ implemented_at t key = option_map_or implemented_of (value_at t key) (Some [])
 abbrev pub kind_of : List ℕ → ConfigKind
 kind_of text = if bytes_eq text (codes "unconfigured") then Unconfigured else (if bytes_eq text (codes "partially configured") then Partially else Fully)
 
-abbrev pub value_by : Option Bool → Option (List ℕ) → Tree → Value
-value_by (Some b) text t = Flag b
-value_by None (Some s) t = Word s
-value_by None None t = Number (number_in t)
-
-abbrev pub value_of : Tree → Value
-value_of t = value_by (flag_of t) (text_of t) t
+abbrev pub given_value : Tree → Value
+given_value t = unwrap_or (values.value_of t) (Number 0)
 
 abbrev pub given_of : Pair → Given
-given_of p = record { name = p.key; value = value_of p.value }
+given_of p = record { name = p.key; value = given_value p.value }
 
 -- ---- entries
 

@@ -1,5 +1,5 @@
 -- The first broken rule of an entry, and the entry that a row gives.
-use Rattle.std.specs.Prelude.{◌≡◌, ℕ, Bool, true, false, List, [], ◌∷◌, ◌++◌, codes, Option, None, Some, Result, Ok, Err}
+use Rattle.std.specs.Prelude.{◌≡◌, ◌⊎◌, ℕ, Bool, true, false, List, [], ◌∷◌, ◌++◌, codes, Option, None, Some, Result, Ok, Err}
 use Rattle.std.specs.Fmt.{decimal}
 use Rattle.yaml_spec.specs.declared.tree.Tree.{Tree}
 use Rattle.yaml_spec.specs.declared.tree.Mark.{Mark}
@@ -86,9 +86,19 @@ pub data FirstBroken (row : Row) (b : Breach) : Type 0 where
 pub record Gives (row : Row) (e : Entry) : Type 0 where
   pub tree : Tree
   pub spelled : Spelled row.text tree
-  pub fits : meets (schema_of row.kind) tree ≡ true
-  pub kept : first_of (rules_of row tree) ≡ None
+  pub meets_schema : meets (schema_of row.kind) tree ≡ true
+  pub unbroken : first_of (rules_of row tree) ≡ None
   pub is : e ≡ entry_of row.kind tree
+
+abbrev pub fault_of : Breach → EntryFault
+fault_of b = Broken b.rule b.shows
+
+-- the answer is this one, or that there was no memory
+abbrev pub IsOrMemory : Result Entry EntryFault → Result Entry EntryFault → Type 0
+IsOrMemory expected answer = (answer ≡ expected) ⊎ (answer ≡ Err Memory)
+
+abbrev pub IsRefusal : Breach → Result Entry EntryFault → Type 0
+IsRefusal b answer = IsOrMemory (Err (fault_of b)) answer
 
 -- what is answered of a row
 abbrev pub IsAnswer : Row → Result Entry EntryFault → Type 0

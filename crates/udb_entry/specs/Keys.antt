@@ -1,10 +1,11 @@
 -- What a tree has under its keys: nothing where it is no map or hasn't the key, and the empty text, list or map
 -- where the value is of another type.
-use Rattle.std.specs.Prelude.{ℕ, ℤ, pos, ◌&&◌, Bool, int_le, unsigned_abs, List, [], Option, if◌then◌else◌}
+use Rattle.std.specs.Prelude.{ℕ, ℤ, Bool, List, [], Option}
 use Rattle.std.specs.Option.{unwrap_or, option_map_or}
 use Rattle.yaml_spec.specs.declared.tree.Tree.{Tree}
 use Rattle.yaml_spec.specs.declared.tree.Pair.{Pair}
-use Rattle.udb_schema.specs.Trees.{flag_of, int_of, text_of, items_of, entries_of, value_under}
+use Rattle.yaml_spec.specs.Trees.{flag_of, int_of, text_of, items_of, entries_of, value_under}
+use Rattle.cond_tree.specs.Values.{number_of}
 
 abbrev pub pairs_in : Tree → List Pair
 pairs_in t = unwrap_or (entries_of t) []
@@ -17,7 +18,7 @@ text_in t = unwrap_or (text_of t) []
 
 -- a number of 64 bits, and 0 where it is none
 abbrev pub natural : ℤ → ℕ
-natural z = if int_le (pos 0) z && int_le z (pos 18446744073709551615) then unsigned_abs z else 0
+natural z = unwrap_or (number_of z) 0
 
 abbrev pub number_in : Tree → ℕ
 number_in t = option_map_or natural (int_of t) 0

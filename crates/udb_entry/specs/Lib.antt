@@ -5,3 +5,4 @@ pub mod Entries
 pub mod Rules
 pub mod First
 pub mod Parts
+pub mod Config

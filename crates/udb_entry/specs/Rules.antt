@@ -1,7 +1,6 @@
 -- The rules on one entry whose text spells a tree that meets its kind's schema. Each is a function of the tree: None
 -- where the rule is kept, else the lines that it shows.
-use Rattle.std.specs.Prelude.{◌&&◌, Bool, true, false, not, ℕ, nat_eq, nat_le, List, [], ◌∷◌, codes, Option, None, Some, is_some, option_map, if◌then◌else◌}
-use Rattle.std.specs.List.{list_any}
+use Rattle.std.specs.Prelude.{Bool, true, false, ℕ, nat_eq, nat_le, List, [], ◌∷◌, drop, codes, Option, None, Some, is_some, option_map, if◌then◌else◌}
 use Rattle.std.specs.Str.{bytes_eq}
 use Rattle.yaml_spec.specs.declared.tree.Tree.{Tree}
 use Rattle.udb_base.specs.declared.kinds.Kind.{Kind}
@@ -9,6 +8,8 @@ use Rattle.udb_base.specs.declared.kinds.Kind.TheVariants.{Extension, Parameter,
 use Rattle.udb_base.specs.declared.versions.Version.{Version}
 use Rattle.udb_base.specs.declared.spaces.Domain.{Domain}
 use Rattle.udb_base.specs.declared.spaces.Domain.TheVariants.{Flags, Numbers, Range, Words}
+use Rattle.udb_base.specs.Lists.{are_distinct}
+use Rattle.udb_spec.specs.Conditions.{same_bytes}
 use Rattle.udb_spec.specs.Versions.{version_lt}
 use Rattle.udb_entry.specs.Keys.{items_at, text_at}
 use Rattle.udb_entry.specs.Alphabets.{has_alphabet}
@@ -50,19 +51,12 @@ version_rule _ t = None
 
 -- ---- domains
 
-abbrev pub has : {A : Type 0} → (A → A → Bool) → A → List A → Bool
-has same x xs = list_any (same x) xs
-
-abbrev pub are_distinct : {A : Type 0} → (A → A → Bool) → List A → Bool
-are_distinct same [] = true
-are_distinct same (x ∷ xs) = not (has same x xs) && are_distinct same xs
-
 -- no value stands twice, and the low end isn't above the high end
 abbrev pub is_domain : Domain → Bool
 is_domain Flags = true
 is_domain (Numbers ns) = are_distinct nat_eq ns
 is_domain (Range low high) = nat_le low high
-is_domain (Words ws) = are_distinct bytes_eq ws
+is_domain (Words ws) = are_distinct same_bytes ws
 
 abbrev pub domain_rule : Kind → Tree → Option Lines
 domain_rule Parameter t = if is_domain (domain_at t (codes "schema")) then None else Some []
@@ -84,6 +78,10 @@ reads Config t =
     ∷ (codes "prohibited_extensions", is_some (members_at t (codes "prohibited_extensions")))
     ∷ (codes "implemented_extensions", is_some (implemented_at t (codes "implemented_extensions"))) ∷ []
 reads _ t = []
+
+-- the same of the keys from a place on
+abbrev pub unread_from : ℕ → Kind → Tree → Option Lines
+unread_from n kind t = first_unread (drop n (reads kind t))
 
 -- conditions, requirements and members can be read
 abbrev pub condition_rule : Kind → Tree → Option Lines

@@ -136,9 +136,13 @@ config_properties =
     ∷ property (codes "mandatory_extensions") members ∷ property (codes "prohibited_extensions") members
     ∷ property (codes "additional_extensions") flag_value ∷ property (codes "implemented_extensions") members ∷ []
 
+-- keys that aren't there
+abbrev pub without : List Key → List SchemaProperty
+without keys = map (λ k. property k no_value) keys
+
 -- a configuration of this type hasn't these keys
 unfoldable pub config_type : List ℕ → List Key → Schema
-config_type name keys = schema (word.Properties (property (codes "type") (exactly name) ∷ map (λ k. property k no_value) keys) ∷ [])
+config_type name keys = schema (word.Properties (property (codes "type") (exactly name) ∷ without keys) ∷ [])
 
 -- the keys of some configurations, and those of partial ones alone
 unfoldable pub optional_keys : List Key

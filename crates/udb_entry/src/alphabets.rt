@@ -101,6 +101,29 @@ fn is_letter_word(name: &[u8]) -> bool
     begins_letter(name) && all_word_bytes(name) && name.len() <= 64
 }
 
+fn is_instruction_byte(byte: u8) -> bool
+    ensures { result ≡ spec.is_instruction_byte byte }
+{
+    is_word_byte(byte) || byte == b'.'
+}
+
+fn all_instruction_bytes(bytes: &[u8]) -> bool
+    ensures { result ≡ list_all spec.is_instruction_byte bytes.now }
+{
+    for byte in bytes {
+        if !is_instruction_byte(*byte) {
+            return false;
+        }
+    }
+    true
+}
+
+fn is_instruction_word(name: &[u8]) -> bool
+    ensures { result ≡ spec.is_word_of spec.is_letter spec.is_instruction_byte name.now }
+{
+    begins_letter(name) && all_instruction_bytes(name) && name.len() <= 64
+}
+
 fn is_among(name: &str, words: &[&str]) -> bool
     ensures { result ≡ list_any (λ w. bytes_eq name.now w.now) words.now }
 {
@@ -119,13 +142,19 @@ fn is_reserved(name: &str) -> bool
     is_among(name, &RESERVED)
 }
 
-/// Whether a name has the alphabet of the names of a kind's entries.
+/// Whether a name has the alphabet of the names of a kind's entries: at most 64 letters, digits and
+/// `_`, the first a letter, and an upper-case one for extensions and parameters. Instructions also
+/// have `.`; a parameter's name is no word of the language of bodies.
 pub fn has_alphabet(kind: Kind, name: &str) -> bool
     ensures { result ≡ spec.has_alphabet kind name.now }
 {
+    let bytes = name.as_bytes();
     match kind {
-        Kind::Extension => is_upper_word(name.as_bytes()),
-        Kind::Parameter => is_upper_word(name.as_bytes()) && !is_reserved(name),
-        _ => is_letter_word(name.as_bytes()),
+        Kind::Extension => is_upper_word(bytes),
+        Kind::Parameter => is_upper_word(bytes) && !is_reserved(name),
+        Kind::Instruction => is_instruction_word(bytes),
+        Kind::Csr => is_letter_word(bytes),
+        Kind::Functions => is_letter_word(bytes),
+        Kind::Config => is_letter_word(bytes),
     }
 }

@@ -1,8 +1,8 @@
 //! What is answered of a row.
 
 use entry_tree::{ConfigEntry, ExtensionEntry, ParamEntry};
-use idl_tree::Lines;
 use std::alloc::AllocError;
+use udb_base::Lines;
 
 /// An entry, read from the text of its row.
 #[derive(Drop)]

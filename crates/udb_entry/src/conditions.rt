@@ -11,7 +11,7 @@ use entry_tree::Members;
 use std::alloc::Global;
 use udb_base::{Many, NoMemory};
 use udb_cond::Cond;
-use udb_yaml::Tree;
+use yaml_spec::Tree;
 
 fn condition_at(alloc: Global, tree: &Tree, key: &str) -> Result<Option<Cond>, NoMemory>
     ensures { IfOk result (λ read. read ≡ spec.condition_at tree.now key.now) }
@@ -30,7 +30,7 @@ pub fn reads_condition(alloc: Global, tree: &Tree, key: &str) -> Result<bool, No
 }
 
 /// The condition under a key: `Always` where there is none.
-pub fn condition(alloc: Global, tree: &Tree, key: &str) -> Result<Cond, NoMemory>
+pub fn condition_under(alloc: Global, tree: &Tree, key: &str) -> Result<Cond, NoMemory>
     ensures { IfOk result (λ c. c ≡ unwrap_or (spec.condition_at tree.now key.now) cond.Always) }
 {
     match condition_at(alloc, tree, key)? {
@@ -56,8 +56,8 @@ pub fn reads_members(alloc: Global, tree: &Tree, key: &str) -> Result<bool, NoMe
 }
 
 /// The members under a key, in the order of the text.
-pub fn members(alloc: Global, tree: &Tree, key: &str) -> Result<Members, NoMemory>
-    ensures { IfOk result (λ members. members ≡ unwrap_or (spec.members_at tree.now key.now) []) }
+pub fn members_under(alloc: Global, tree: &Tree, key: &str) -> Result<Members, NoMemory>
+    ensures { IfOk result (λ ms. ms ≡ unwrap_or (spec.members_at tree.now key.now) []) }
 {
     match members_at(alloc, tree, key)? {
         Some(members) => Ok(members),
@@ -82,8 +82,8 @@ pub fn reads_implemented(alloc: Global, tree: &Tree, key: &str) -> Result<bool, 
 }
 
 /// The members under a key that have one version or none, in the order of the text.
-pub fn implemented(alloc: Global, tree: &Tree, key: &str) -> Result<Members, NoMemory>
-    ensures { IfOk result (λ members. members ≡ unwrap_or (spec.implemented_at tree.now key.now) []) }
+pub fn implemented_under(alloc: Global, tree: &Tree, key: &str) -> Result<Members, NoMemory>
+    ensures { IfOk result (λ ms. ms ≡ unwrap_or (spec.implemented_at tree.now key.now) []) }
 {
     match implemented_at(alloc, tree, key)? {
         Some(members) => Ok(members),

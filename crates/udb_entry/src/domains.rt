@@ -1,15 +1,14 @@
 //! Domains of parameters.
 
-ghost use Rattle.std.specs.Prelude.{◌≡◌, IfOk, map, nat_eq};
-ghost use Rattle.std.specs.Str.{bytes_eq};
+ghost use Rattle.std.specs.Prelude.{◌≡◌, IfOk, map};
 ghost use Rattle.udb_entry.specs.Keys as keys;
 ghost use Rattle.udb_entry.specs.Entries as spec;
 ghost use Rattle.udb_entry.specs.Rules as rules;
 
 use crate::keys::{items_at, number_at, number_in, text_at, text_in, value_at};
 use std::alloc::Global;
-use udb_base::{Chars, Domain, Many, NoMemory, Numbers, Words};
-use udb_yaml::Tree;
+use udb_base::{Chars, Domain, Many, NoMemory, Numbers, Words, are_distinct};
+use yaml_spec::Tree;
 
 fn words(alloc: Global, items: &[Tree]) -> Result<Words, NoMemory>
     ensures { IfOk result (λ words. words ≡ map keys.text_in items.now) }
@@ -66,58 +65,14 @@ pub fn domain_at(alloc: Global, tree: &Tree, key: &str) -> Result<Domain, NoMemo
     }
 }
 
-fn has_number(numbers: &[u64], number: u64) -> bool
-    ensures { result ≡ rules.has nat_eq number numbers.now }
-{
-    for other in numbers {
-        if number == *other {
-            return true;
-        }
-    }
-    false
-}
-
-fn are_distinct_numbers(numbers: &[u64]) -> bool
-    ensures { result ≡ rules.are_distinct nat_eq numbers.now }
-{
-    for (place, number) in numbers.iter().enumerate() {
-        if has_number(&numbers[place + 1..], *number) {
-            return false;
-        }
-    }
-    true
-}
-
-fn has_word(words: &[Chars], word: &str) -> bool
-    ensures { result ≡ rules.has bytes_eq word.now words.now }
-{
-    for other in words {
-        if word == other.as_str() {
-            return true;
-        }
-    }
-    false
-}
-
-fn are_distinct_words(words: &[Chars]) -> bool
-    ensures { result ≡ rules.are_distinct bytes_eq words.now }
-{
-    for (place, word) in words.iter().enumerate() {
-        if has_word(&words[place + 1..], word.as_str()) {
-            return false;
-        }
-    }
-    true
-}
-
 /// Whether a domain has no value twice and no low end above its high end.
 pub fn is_domain(domain: &Domain) -> bool
     ensures { result ≡ rules.is_domain domain.now }
 {
     match domain {
         Domain::Flags => true,
-        Domain::Numbers(numbers) => are_distinct_numbers(numbers.as_slice()),
+        Domain::Numbers(numbers) => are_distinct(numbers.as_slice()),
         Domain::Range { low, high } => *low <= *high,
-        Domain::Words(words) => are_distinct_words(words.as_slice()),
+        Domain::Words(words) => are_distinct(words.as_slice()),
     }
 }

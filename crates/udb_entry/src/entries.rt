@@ -5,22 +5,23 @@ ghost use Rattle.udb_entry.specs.Keys as keys;
 ghost use Rattle.udb_entry.specs.Entries as spec;
 
 use crate::answers::Entry;
-use crate::conditions::{condition, implemented, members};
+use crate::conditions::{condition_under, implemented_under, members_under};
 use crate::domains::domain_at;
-use crate::keys::{flag_at, items_at, number_in, pairs_at, text_at};
+use crate::keys::{flag_at, items_at, pairs_at, text_at};
 use crate::versions::listed_versions;
-use entry_tree::{ConfigEntry, ConfigKind, ExtensionEntry, Given, Givens, ParamEntry};
+use cond_tree::read_value;
+use entry_tree::{ConfigEntry, ConfigKind, ExtensionEntry, Given, Givens, Members, ParamEntry};
 use std::alloc::Global;
-use udb_base::{Chars, Copied, Kind, Many, Name, NoMemory, Value};
-use udb_yaml::{Pair, Tree};
+use udb_base::{Chars, Kind, Many, Name, NoMemory, Value, both};
+use yaml_spec::{Pair, Tree};
 
-fn chars_at(alloc: Global, tree: &Tree, key: &str) -> Result<Chars, NoMemory>
+fn text_under(alloc: Global, tree: &Tree, key: &str) -> Result<Chars, NoMemory>
     ensures { IfOk result (λ text. text ≡ keys.text_at tree.now key.now) }
 {
     Chars::of(alloc, text_at(tree, key))
 }
 
-fn name(alloc: Global, tree: &Tree) -> Result<Name, NoMemory>
+fn own_name(alloc: Global, tree: &Tree) -> Result<Name, NoMemory>
     ensures { IfOk result (λ name. name ≡ keys.text_at tree.now (codes "name")) }
 {
     Name::of(alloc, text_at(tree, "name"))
@@ -30,11 +31,11 @@ fn extension(alloc: Global, tree: &Tree) -> Result<ExtensionEntry, NoMemory>
     ensures { IfOk result (λ entry. entry ≡ spec.extension_of tree.now) }
 {
     Ok(ExtensionEntry {
-        name: name(alloc, tree)?,
-        long_name: chars_at(alloc, tree, "long_name")?,
-        description: chars_at(alloc, tree, "description")?,
+        name: own_name(alloc, tree)?,
+        long_name: text_under(alloc, tree, "long_name")?,
+        description: text_under(alloc, tree, "description")?,
         versions: listed_versions(alloc, items_at(tree, "versions"))?,
-        needs: condition(alloc, tree, "requirements")?,
+        needs: condition_under(alloc, tree, "requirements")?,
     })
 }
 
@@ -42,12 +43,12 @@ fn param(alloc: Global, tree: &Tree) -> Result<ParamEntry, NoMemory>
     ensures { IfOk result (λ entry. entry ≡ spec.param_of tree.now) }
 {
     Ok(ParamEntry {
-        name: name(alloc, tree)?,
-        long_name: chars_at(alloc, tree, "long_name")?,
-        description: chars_at(alloc, tree, "description")?,
+        name: own_name(alloc, tree)?,
+        long_name: text_under(alloc, tree, "long_name")?,
+        description: text_under(alloc, tree, "description")?,
         domain: domain_at(alloc, tree, "schema")?,
-        defined: condition(alloc, tree, "definedBy")?,
-        needs: condition(alloc, tree, "requirements")?,
+        defined: condition_under(alloc, tree, "definedBy")?,
+        needs: condition_under(alloc, tree, "requirements")?,
     })
 }
 
@@ -63,32 +64,29 @@ fn kind_of(text: &str) -> ConfigKind
     }
 }
 
-#[tactic(auto, using(udb_schema::proofs::TreeLaws::layers), unfolding(udb_schema::specs::Trees::flag_of, udb_schema::specs::Trees::text_of))]
 fn value(alloc: Global, tree: &Tree) -> Result<Value, NoMemory>
-    ensures { IfOk result (λ value. value ≡ spec.value_of tree.now) }
+    ensures { IfOk result (λ value. value ≡ spec.given_value tree.now) }
 {
-    match tree {
-        Tree::Flag(flag) => Ok(Value::Flag(*flag)),
-        Tree::Text(text) => Ok(Value::Word(text.copy(alloc)?)),
-        _ => Ok(Value::Number(number_in(tree))),
+    match read_value(alloc, tree)? {
+        Some(value) => Ok(value),
+        None => Ok(Value::Number(0)),
     }
 }
 
-fn given(alloc: Global, pair: &Pair) -> Result<Given, NoMemory>
+fn value_given(alloc: Global, pair: &Pair) -> Result<Given, NoMemory>
     ensures { IfOk result (λ given. given ≡ spec.given_of pair.now) }
 {
-    Ok(Given {
-        name: Name::of(alloc, pair.key.as_str())?,
-        value: value(alloc, &pair.value)?,
-    })
+    let name = Name::of(alloc, pair.key.as_str());
+    let (name, value) = both(name, value(alloc, &pair.value))?;
+    Ok(Given { name, value })
 }
 
-fn givens(alloc: Global, pairs: &[Pair]) -> Result<Givens, NoMemory>
+fn values_given(alloc: Global, pairs: &[Pair]) -> Result<Givens, NoMemory>
     ensures { IfOk result (λ givens. givens ≡ map spec.given_of pairs.now) }
 {
     let mut givens = Many::new(alloc);
     for pair in pairs {
-        givens.push(given(alloc, pair)?)?;
+        givens.push(value_given(alloc, pair)?)?;
     }
     Ok(givens)
 }
@@ -97,14 +95,14 @@ fn config(alloc: Global, tree: &Tree) -> Result<ConfigEntry, NoMemory>
     ensures { IfOk result (λ entry. entry ≡ spec.config_of tree.now) }
 {
     Ok(ConfigEntry {
-        name: name(alloc, tree)?,
-        description: chars_at(alloc, tree, "description")?,
+        name: own_name(alloc, tree)?,
+        description: text_under(alloc, tree, "description")?,
         kind: kind_of(text_at(tree, "type")),
-        params: givens(alloc, pairs_at(tree, "params"))?,
-        mandatory: members(alloc, tree, "mandatory_extensions")?,
-        prohibited: members(alloc, tree, "prohibited_extensions")?,
+        params: values_given(alloc, pairs_at(tree, "params"))?,
+        mandatory: members_under(alloc, tree, "mandatory_extensions")?,
+        prohibited: members_under(alloc, tree, "prohibited_extensions")?,
         additional: flag_at(tree, "additional_extensions", true),
-        implemented: implemented(alloc, tree, "implemented_extensions")?,
+        implemented: implemented_under(alloc, tree, "implemented_extensions")?,
     })
 }
 

@@ -2,82 +2,58 @@
 
 ghost use Rattle.std.specs.Prelude.{◌≡◌};
 ghost use Rattle.std.specs.Option.{option_copied};
-ghost use Rattle.udb_schema.specs.Trees.{value_under};
 ghost use Rattle.udb_entry.specs.Keys as spec;
 
-use udb_yaml::{Pair, Tree};
+use yaml_spec::{Pair, Tree, value_under};
 
-#[tactic(auto, using(udb_schema::proofs::TreeLaws::layers), unfolding(udb_schema::specs::Trees::entries_of))]
 fn pairs_in(tree: &Tree) -> &[Pair]
     ensures { result.now ≡ spec.pairs_in tree.now }
 {
-    match tree {
-        Tree::Map(pairs) => pairs.as_slice(),
-        _ => &[],
+    match tree.as_map() {
+        Some(pairs) => pairs,
+        None => &[],
     }
 }
 
-#[tactic(auto, using(udb_schema::proofs::TreeLaws::layers), unfolding(udb_schema::specs::Trees::items_of))]
 fn items_in(tree: &Tree) -> &[Tree]
     ensures { result.now ≡ spec.items_in tree.now }
 {
-    match tree {
-        Tree::List(items) => items.as_slice(),
-        _ => &[],
+    match tree.as_list() {
+        Some(items) => items,
+        None => &[],
     }
 }
 
 /// The text that a tree is, else the empty one.
-#[tactic(auto, using(udb_schema::proofs::TreeLaws::layers), unfolding(udb_schema::specs::Trees::text_of))]
 pub fn text_in(tree: &Tree) -> &str
     ensures { result.now ≡ spec.text_in tree.now }
 {
-    match tree {
-        Tree::Text(text) => text.as_str(),
-        _ => "",
+    match tree.as_text() {
+        Some(text) => text,
+        None => "",
     }
 }
 
 fn natural(number: i128) -> u64
     ensures { result ≡ spec.natural number }
 {
-    if 0 <= number && number <= 18_446_744_073_709_551_615 {
-        number.unsigned_abs() as u64
-    } else {
-        0
-    }
+    u64::try_from(number).unwrap_or(0)
 }
 
 /// The number of 64 bits that a tree is, else 0.
-#[tactic(auto, using(udb_schema::proofs::TreeLaws::layers), unfolding(udb_schema::specs::Trees::int_of))]
 pub fn number_in(tree: &Tree) -> u64
     ensures { result ≡ spec.number_in tree.now }
 {
-    match tree {
-        Tree::Int(number) => natural(*number),
-        _ => 0,
+    match tree.as_int() {
+        Some(number) => natural(number),
+        None => 0,
     }
 }
 
-#[tactic(auto, using(udb_schema::proofs::TreeLaws::layers), unfolding(udb_schema::specs::Trees::flag_of))]
 fn flag_in(tree: &Tree, missing: bool) -> bool
     ensures { result ≡ spec.flag_in tree.now missing }
 {
-    match tree {
-        Tree::Flag(flag) => *flag,
-        _ => missing,
-    }
-}
-
-fn value_under<'a>(pairs: &'a [Pair], key: &str) -> Option<&'a Tree>
-    ensures { option_copied result ≡ value_under pairs.now key.now }
-{
-    for pair in pairs {
-        if pair.key.as_str() == key {
-            return Some(&pair.value);
-        }
-    }
-    None
+    tree.as_flag().unwrap_or(missing)
 }
 
 /// The value under a key.

@@ -5,6 +5,7 @@
 mod alphabets;
 mod answers;
 mod conditions;
+mod constraints;
 mod domains;
 mod entries;
 mod keys;
@@ -12,13 +13,12 @@ mod reading;
 mod rules;
 mod schemas;
 mod shows;
-#[cfg(test)]
-mod tests;
 mod versions;
 
+pub use alphabets::has_alphabet;
 pub use answers::{Breach, Entry, EntryFault};
+pub use constraints::read_config;
 pub use entry_tree::{
     ConfigEntry, ConfigKind, ExtensionEntry, Given, Givens, Member, Members, ParamEntry,
 };
 pub use reading::read_entry;
-pub use udb_config::read_config;

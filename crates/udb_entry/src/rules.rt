@@ -1,6 +1,6 @@
 //! The rules on an entry whose text spells a tree that meets its kind's schema.
 
-ghost use Rattle.std.specs.Prelude.{◌≡◌, drop, IfOk, Some};
+ghost use Rattle.std.specs.Prelude.{◌≡◌, IfOk, Some};
 ghost use Rattle.udb_base.specs.declared.kinds.Kind.TheVariants as kind;
 ghost use Rattle.udb_entry.specs.Rules as spec;
 ghost use Rattle.udb_entry.specs.First as first;
@@ -11,10 +11,9 @@ use crate::conditions::{reads_condition, reads_implemented, reads_members};
 use crate::domains::{domain_at, is_domain};
 use crate::keys::{items_at, text_at};
 use crate::versions::first_wrong;
-use idl_tree::Lines;
 use std::alloc::Global;
-use udb_base::{Chars, Kind, Many, NoMemory, Row};
-use udb_yaml::Tree;
+use udb_base::{Chars, Kind, Lines, Many, NoMemory, Row};
+use yaml_spec::Tree;
 
 /// One line.
 pub fn one_line(alloc: Global, text: &str) -> Result<Lines, NoMemory>
@@ -26,7 +25,7 @@ pub fn one_line(alloc: Global, text: &str) -> Result<Lines, NoMemory>
 }
 
 // The line in an answer.
-fn shown(alloc: Global, text: &str) -> Result<Option<Lines>, NoMemory>
+fn show(alloc: Global, text: &str) -> Result<Option<Lines>, NoMemory>
     ensures { IfOk result (λ lines. lines ≡ Some (spec.one_line text.now)) }
 {
     Ok(Some(one_line(alloc, text)?))
@@ -39,7 +38,7 @@ fn name_rule(alloc: Global, name: &str, tree: &Tree) -> Result<Option<Lines>, No
     if own == name {
         Ok(None)
     } else {
-        shown(alloc, own)
+        show(alloc, own)
     }
 }
 
@@ -50,7 +49,7 @@ fn alphabet_rule(alloc: Global, kind: Kind, tree: &Tree) -> Result<Option<Lines>
     if has_alphabet(kind, own) {
         Ok(None)
     } else {
-        shown(alloc, own)
+        show(alloc, own)
     }
 }
 
@@ -58,7 +57,7 @@ fn extension_versions(alloc: Global, tree: &Tree) -> Result<Option<Lines>, NoMem
     ensures { IfOk result (λ shows. shows ≡ spec.version_rule kind.Extension tree.now) }
 {
     match first_wrong(alloc, items_at(tree, "versions"))? {
-        Some(text) => shown(alloc, text.as_str()),
+        Some(text) => show(alloc, text.as_str()),
         None => Ok(None),
     }
 }
@@ -98,37 +97,36 @@ fn extension_conditions(alloc: Global, tree: &Tree) -> Result<Option<Lines>, NoM
     if reads_condition(alloc, tree, "requirements")? {
         Ok(None)
     } else {
-        shown(alloc, "requirements")
+        show(alloc, "requirements")
     }
 }
 
 fn param_conditions(alloc: Global, tree: &Tree) -> Result<Option<Lines>, NoMemory>
     ensures { IfOk result (λ shows. shows ≡ spec.condition_rule kind.Parameter tree.now) }
 {
-    if reads_condition(alloc, tree, "definedBy")? {
-        extension_conditions(alloc, tree)
-    } else {
-        shown(alloc, "definedBy")
+    if !reads_condition(alloc, tree, "definedBy")? {
+        return show(alloc, "definedBy");
     }
+    extension_conditions(alloc, tree)
 }
 
 fn implemented_members(alloc: Global, tree: &Tree) -> Result<Option<Lines>, NoMemory>
-    ensures { IfOk result (λ shows. shows ≡ spec.first_unread (drop 2 (spec.reads kind.Config tree.now))) }
+    ensures { IfOk result (λ shows. shows ≡ spec.unread_from 2 kind.Config tree.now) }
 {
     if reads_implemented(alloc, tree, "implemented_extensions")? {
         Ok(None)
     } else {
-        shown(alloc, "implemented_extensions")
+        show(alloc, "implemented_extensions")
     }
 }
 
 fn prohibited_members(alloc: Global, tree: &Tree) -> Result<Option<Lines>, NoMemory>
-    ensures { IfOk result (λ shows. shows ≡ spec.first_unread (drop 1 (spec.reads kind.Config tree.now))) }
+    ensures { IfOk result (λ shows. shows ≡ spec.unread_from 1 kind.Config tree.now) }
 {
     if reads_members(alloc, tree, "prohibited_extensions")? {
         implemented_members(alloc, tree)
     } else {
-        shown(alloc, "prohibited_extensions")
+        show(alloc, "prohibited_extensions")
     }
 }
 
@@ -138,7 +136,7 @@ fn config_members(alloc: Global, tree: &Tree) -> Result<Option<Lines>, NoMemory>
     if reads_members(alloc, tree, "mandatory_extensions")? {
         prohibited_members(alloc, tree)
     } else {
-        shown(alloc, "mandatory_extensions")
+        show(alloc, "mandatory_extensions")
     }
 }
 
@@ -155,48 +153,24 @@ fn condition_rule(alloc: Global, kind: Kind, tree: &Tree) -> Result<Option<Lines
 
 // ---- the first of them
 
-fn from_conditions(alloc: Global, row: &Row, tree: &Tree) -> Result<Option<Breach>, NoMemory>
-    ensures { IfOk result (λ breach. breach ≡ first.first_of (drop 4 (first.rules_of row.now tree.now))) }
-{
-    match condition_rule(alloc, row.kind, tree)? {
-        Some(shows) => Ok(Some(Breach { rule: 8, shows })),
-        None => Ok(None),
-    }
-}
-
-fn from_domains(alloc: Global, row: &Row, tree: &Tree) -> Result<Option<Breach>, NoMemory>
-    ensures { IfOk result (λ breach. breach ≡ first.first_of (drop 3 (first.rules_of row.now tree.now))) }
-{
-    match domain_rule(alloc, row.kind, tree)? {
-        Some(shows) => Ok(Some(Breach { rule: 6, shows })),
-        None => from_conditions(alloc, row, tree),
-    }
-}
-
-fn from_versions(alloc: Global, row: &Row, tree: &Tree) -> Result<Option<Breach>, NoMemory>
-    ensures { IfOk result (λ breach. breach ≡ first.first_of (drop 2 (first.rules_of row.now tree.now))) }
-{
-    match version_rule(alloc, row.kind, tree)? {
-        Some(shows) => Ok(Some(Breach { rule: 5, shows })),
-        None => from_domains(alloc, row, tree),
-    }
-}
-
-fn from_alphabets(alloc: Global, row: &Row, tree: &Tree) -> Result<Option<Breach>, NoMemory>
-    ensures { IfOk result (λ breach. breach ≡ first.first_of (drop 1 (first.rules_of row.now tree.now))) }
-{
-    match alphabet_rule(alloc, row.kind, tree)? {
-        Some(shows) => Ok(Some(Breach { rule: 4, shows })),
-        None => from_versions(alloc, row, tree),
-    }
-}
-
 /// The first rule on the tree that is broken.
 pub fn first_breach(alloc: Global, row: &Row, tree: &Tree) -> Result<Option<Breach>, NoMemory>
     ensures { IfOk result (λ breach. breach ≡ first.first_of (first.rules_of row.now tree.now)) }
 {
-    match name_rule(alloc, row.name.as_str(), tree)? {
-        Some(shows) => Ok(Some(Breach { rule: 3, shows })),
-        None => from_alphabets(alloc, row, tree),
+    if let Some(shows) = name_rule(alloc, row.name.as_str(), tree)? {
+        return Ok(Some(Breach { rule: 3, shows }));
     }
+    if let Some(shows) = alphabet_rule(alloc, row.kind, tree)? {
+        return Ok(Some(Breach { rule: 4, shows }));
+    }
+    if let Some(shows) = version_rule(alloc, row.kind, tree)? {
+        return Ok(Some(Breach { rule: 5, shows }));
+    }
+    if let Some(shows) = domain_rule(alloc, row.kind, tree)? {
+        return Ok(Some(Breach { rule: 6, shows }));
+    }
+    if let Some(shows) = condition_rule(alloc, row.kind, tree)? {
+        return Ok(Some(Breach { rule: 8, shows }));
+    }
+    Ok(None)
 }

@@ -10,7 +10,7 @@ use udb_schema::{
     Additional, Names, Schema, SchemaProperties, SchemaProperty, SchemaWord, SchemaWords, Schemas,
     TypeName,
 };
-use udb_yaml::Tree;
+use yaml_spec::Tree;
 
 const MOST: i128 = 18_446_744_073_709_551_615;
 
@@ -40,16 +40,11 @@ fn names(alloc: Global, keys: &[&str]) -> Result<Names, NoMemory>
     Ok(names)
 }
 
-fn add(
-    alloc: Global,
-    properties: &mut SchemaProperties,
-    key: &str,
-    schema: Schema,
-) -> Result<(), NoMemory>
-    ensures { OnOk result (properties.new ≡ properties.old ++ spec.property key.now schema ∷ []) }
+fn add(alloc: Global, to: &mut SchemaProperties, key: &str, schema: Schema) -> Result<(), NoMemory>
+    ensures { OnOk result (to.new ≡ to.old ++ spec.property key.now schema ∷ []) }
 {
     let key = Chars::of(alloc, key)?;
-    properties.push(SchemaProperty { key, schema })
+    to.push(SchemaProperty { key, schema })
 }
 
 // ---- values
@@ -413,15 +408,11 @@ fn config_properties(alloc: Global) -> Result<SchemaProperties, NoMemory>
     Ok(properties)
 }
 
-fn push_without(
-    alloc: Global,
-    properties: &mut SchemaProperties,
-    keys: &[Chars],
-) -> Result<(), NoMemory>
-    ensures { OnOk result (properties.new ≡ properties.old ++ map (λ k. spec.property k spec.no_value) keys.now) }
+fn push_without(alloc: Global, to: &mut SchemaProperties, keys: &[Chars]) -> Result<(), NoMemory>
+    ensures { OnOk result (to.new ≡ to.old ++ spec.without keys.now) }
 {
     for key in keys {
-        add(alloc, properties, key.as_str(), no_value(alloc)?)?;
+        add(alloc, to, key.as_str(), no_value(alloc)?)?;
     }
     Ok(())
 }

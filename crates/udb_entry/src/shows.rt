@@ -5,11 +5,10 @@ ghost use Rattle.udb_entry.specs.Rules as rules;
 ghost use Rattle.udb_entry.specs.First as spec;
 
 use crate::rules::one_line;
-use idl_tree::Lines;
 use std::alloc::Global;
-use udb_base::{Chars, Many, NoMemory};
+use udb_base::{Chars, Lines, Many, NoMemory};
 use udb_schema::Word;
-use udb_yaml::Mark;
+use yaml_spec::Mark;
 
 fn mark_word(mark: Mark) -> &'static str
     ensures { result.now ≡ spec.mark_word mark }

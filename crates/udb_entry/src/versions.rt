@@ -3,17 +3,14 @@
 ghost use Rattle.std.specs.Prelude.{◌≡◌, IfOk, map, None};
 ghost use Rattle.std.specs.Result.{result_ok};
 ghost use Rattle.std.specs.Fmt.{signed_decimal};
-ghost use Rattle.std.specs.Option.{option_map_or};
-ghost use Rattle.udb_spec.specs.Versions.{version_lt};
-ghost use Rattle.udb_schema.specs.Trees.{int_of};
 ghost use Rattle.udb_entry.specs.Entries as spec;
 ghost use Rattle.udb_entry.specs.Rules as rules;
 
 use crate::keys::{flag_at, text_in, value_at};
 use std::alloc::Global;
 use udb_base::{Chars, ListedVersions, Many, NoMemory};
-use udb_cond::{Listed, Version, parse_version};
-use udb_yaml::Tree;
+use udb_cond::{Listed, Version, is_below, parse_version};
+use yaml_spec::Tree;
 
 fn digits(alloc: Global, number: i128) -> Result<Chars, NoMemory>
     ensures { IfOk result (λ text. text ≡ signed_decimal number) }
@@ -21,13 +18,12 @@ fn digits(alloc: Global, number: i128) -> Result<Chars, NoMemory>
     Ok(Chars::from_string(format!(in alloc; "{number}")?))
 }
 
-#[tactic(auto, using(udb_schema::proofs::TreeLaws::layers), unfolding(udb_schema::specs::Trees::int_of))]
-fn written(alloc: Global, tree: &Tree) -> Result<Chars, NoMemory>
-    ensures { IfOk result (λ text. text ≡ spec.written tree.now) }
+fn scalar_text(alloc: Global, tree: &Tree) -> Result<Chars, NoMemory>
+    ensures { IfOk result (λ text. text ≡ spec.scalar_text tree.now) }
 {
-    match tree {
-        Tree::Int(number) => digits(alloc, *number),
-        _ => Chars::of(alloc, text_in(tree)),
+    match tree.as_int() {
+        Some(number) => digits(alloc, number),
+        None => Chars::of(alloc, text_in(tree)),
     }
 }
 
@@ -35,18 +31,9 @@ fn version_text(alloc: Global, tree: &Tree) -> Result<Chars, NoMemory>
     ensures { IfOk result (λ text. text ≡ spec.version_text tree.now) }
 {
     match value_at(tree, "version") {
-        Some(value) => written(alloc, value),
+        Some(value) => scalar_text(alloc, value),
         None => Ok(Chars::new(alloc)),
     }
-}
-
-fn is_below(version: &Version, other: &Version) -> bool
-    ensures { result ≡ version_lt version.now other.now }
-{
-    version.major < other.major
-        || version.major == other.major
-            && (version.minor < other.minor
-                || version.minor == other.minor && version.patch < other.patch)
 }
 
 fn follows(before: Option<Version>, version: Option<Version>) -> bool
@@ -90,7 +77,7 @@ fn version_or_none(text: &str) -> Version
     }
 }
 
-fn listed(alloc: Global, tree: &Tree) -> Result<Listed, NoMemory>
+fn listed_of(alloc: Global, tree: &Tree) -> Result<Listed, NoMemory>
     ensures { IfOk result (λ listed. listed ≡ spec.listed_of tree.now) }
 {
     let text = version_text(alloc, tree)?;
@@ -106,7 +93,7 @@ pub fn listed_versions(alloc: Global, versions: &[Tree]) -> Result<ListedVersion
 {
     let mut list = Many::new(alloc);
     for tree in versions {
-        list.push(listed(alloc, tree)?)?;
+        list.push(listed_of(alloc, tree)?)?;
     }
     Ok(list)
 }

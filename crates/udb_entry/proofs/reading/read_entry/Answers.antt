@@ -8,7 +8,7 @@ pub returns-clause-only : goal.returns-clause-only
 returns-clause-only c e g = answer_only c.args.row.now c.read.result e c.read.ensures g
 
 pub returns-clause-broken : goal.returns-clause-broken
-returns-clause-broken c rule shows is = answer_broken c.args.row.now c.read.result rule shows c.read.ensures is
+returns-clause-broken c b is = answer_broken c.args.row.now c.read.result b c.read.ensures is
 
 pub returns-clause-broken_only : goal.returns-clause-broken_only
-returns-clause-broken_only c rule shows f = answer_broken_only c.args.row.now c.read.result rule shows c.read.ensures f
+returns-clause-broken_only c b f = answer_broken_only c.args.row.now c.read.result b c.read.ensures f

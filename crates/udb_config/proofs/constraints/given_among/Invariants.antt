@@ -1,6 +1,0 @@
-use Rattle.std.proofs.Common.{◌≡◌, drop}
-use Rattle.udb_config.specs.Config.{given_among}
-use Rattle.udb_config.proofs.constraints.given_among.Given as goal
-
-abbrev pub invariant-loop-given : goal.invariant-loop-given
-invariant-loop-given l = given_among (drop l.given-index l.givens) l.name ≡ given_among l.givens l.name

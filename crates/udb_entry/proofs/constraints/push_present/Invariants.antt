@@ -1,0 +1,6 @@
+use Rattle.std.proofs.Common.{◌≡◌, ◌++◌, take, map}
+use Rattle.udb_entry.specs.Config.{present}
+use Rattle.udb_entry.proofs.constraints.push_present.Given as goal
+
+abbrev pub invariant-loop-member : goal.invariant-loop-member
+invariant-loop-member l = l.into ≡ l.initial.into ++ map present (take l.member-index l.members)
