@@ -1,6 +1,6 @@
 pub mod Modulo
 pub mod Patterns
-pub mod Places
+pub mod Fields
 pub mod LongShifts
 mod Rows
 pub mod Shapes

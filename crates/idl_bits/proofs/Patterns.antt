@@ -55,12 +55,12 @@ unfolding number
 number-plain a e = ap (λ t. cond t (pos a.pattern -ℤ pos (2 ^ a.width)) (pos a.pattern)) e
 
 pub wider : (p w : ℕ) → w ≤ 128 → p < 2 ^ w → p < 2 ^ 128
-wider p w h l = let fits : 2 ^ w ≤ 2 ^ 128 = pow_mono h in omega arith
+wider p w h l = let in_width : 2 ^ w ≤ 2 ^ 128 = pow_mono h in omega arith
 
 pub whole-negative : (a : BitVector) (p m : ℕ) → is_negative a ≡ true → a.width ≤ 128 → m + 1 ≡ 2 ^ a.width → p ≡ a.pattern → p < 2 ^ a.width → bit_or p (2 ^ 128 - 1 - m) ≡ extension 128 a
 whole-negative a p m t h e s l =
     let n = p + (2 ^ 128 - 2 ^ a.width) in
-    let fits : 2 ^ a.width ≤ 2 ^ 128 = pow_mono h in
+    let in_width : 2 ^ a.width ≤ 2 ^ 128 = pow_mono h in
     let differs : pos n +ℤ pos (0 * 2 ^ 128) ≡ (pos a.pattern -ℤ pos (2 ^ a.width)) +ℤ pos (1 * 2 ^ 128) = omega (arith, ints) in
     or-above a.width m p h e l
     ∙ sym (pattern_of-small 128 n (omega arith))
@@ -103,8 +103,8 @@ pub value-at : (w w' : ℕ) (s : Bool) (z : ℤ) → w ≡ w' → value_of w s z
 value-at w w' s z e = ap (λ v. value_of v s z) e
 
 -- the value that holds a number, from any rest that keeps its bits
-pub shaped-as : (r : BitVector) (w w' n : ℕ) (s s' : Bool) (z : ℤ) → r ≡ value_of w s (pos n) → w ≤ 128 → w ≡ w' → s ≡ s' → n ≡ pattern_of 128 z → r ≡ value_of w' s' z
-shaped-as r w w' n s s' z e h f g i = same-parts w w' s s' (pattern_of w (pos n)) (pattern_of w' z) r e f g (ap (λ x. pattern_of w (pos x)) i ∙ narrowed w z h ∙ ap (λ v. pattern_of v z) f)
+pub wrap-as : (r : BitVector) (w w' n : ℕ) (s s' : Bool) (z : ℤ) → r ≡ value_of w s (pos n) → w ≤ 128 → w ≡ w' → s ≡ s' → n ≡ pattern_of 128 z → r ≡ value_of w' s' z
+wrap-as r w w' n s s' z e h f g i = same-parts w w' s s' (pattern_of w (pos n)) (pattern_of w' z) r e f g (ap (λ x. pattern_of w (pos x)) i ∙ narrowed w z h ∙ ap (λ v. pattern_of v z) f)
 
 -- the same of an operation that acts on each bit alone
 pub bits-as : (f : ℕ → ℕ → ℕ) → ((a b k : ℕ) → f a b % 2 ^ k ≡ f (a % 2 ^ k) (b % 2 ^ k)) → (r : BitVector) (w w' x y : ℕ) (s s' : Bool) (a b : ℤ)

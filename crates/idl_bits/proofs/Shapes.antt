@@ -117,4 +117,4 @@ with_bit-shape a at value = either (nat_lt at.pattern a.width) _ _ _ _ (same _ _
 
 -- a value that is made of a number in a width that is in range is well formed
 pub value_of-well_formed : (width : ℕ) (signed : Bool) (z : ℤ) → 1 ≤ width → width ≤ 128 → IsWellFormed (value_of width signed z)
-value_of-well_formed width signed z h k = record { positive = h; limit = k; fits = pattern_of-lt width z }
+value_of-well_formed width signed z h k = record { positive = h; limit = k; in_width = pattern_of-lt width z }

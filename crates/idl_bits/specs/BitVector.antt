@@ -1,4 +1,4 @@
--- The values that the ISA Description Language computes with: up to 128 bits, with a sign.
+-- Statement: the values that the ISA Description Language computes with: up to 128 bits, with a sign.
 use Rattle.std.specs.Prelude.{ℕ, ◌^◌, ◌<◌, ◌≤◌, Bool}
 
 -- how many bits, whether they are read in two's complement, and the bits as a natural number
@@ -11,4 +11,4 @@ pub record BitVector : Type 0 where
 pub record IsWellFormed (v : BitVector) : Type 0 where
   pub positive : 1 ≤ v.width
   pub limit : v.width ≤ 128
-  pub fits : v.pattern < 2 ^ v.width
+  pub in_width : v.pattern < 2 ^ v.width

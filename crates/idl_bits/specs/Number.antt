@@ -1,4 +1,4 @@
--- Which whole number a value counts as, and which value holds a whole number.
+-- Statement: which whole number a value counts as, and which value holds a whole number.
 use Rattle.std.specs.Prelude.{ℕ, ◌-◌, ◌^◌, max, Bool, ◌&&◌, if◌then◌else◌, ◌==◌, ℤ, pos, ◌-ℤ◌, unsigned_abs}
 use Rattle.std.specs.Int.{bit_at, int_rem_euclid}
 use Rattle.idl_bits.specs.BitVector.{BitVector}

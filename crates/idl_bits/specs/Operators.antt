@@ -1,4 +1,5 @@
--- The operators of the ISA Description Language, each by its whole number modulo 2 ^ width of its result.
+-- Statement: the operators of the ISA Description Language, each by its whole number modulo
+-- 2 ^ width of its result.
 use Rattle.std.specs.Prelude.{ℕ, zero, suc, ◌+◌, ◌-◌, ◌*◌, ◌/◌, ◌%◌, ◌^◌, min, Bool, true, false, if◌then◌else◌, nat_lt, pos, ◌+ℤ◌, ◌-ℤ◌, ◌*ℤ◌, neg_ℤ, int_lt, int_div, int_rem, bit_and, bit_or, bit_xor}
 use Rattle.std.specs.Int.{bit_at, int_div_euclid}
 use Rattle.std.specs.Ordering.{int_eq}
@@ -88,19 +89,19 @@ resized_to width a = value_of width a.signed (number a)
 -- ---- `<<`, `>>`, `>>>` and the widening `` `<< ``
 
 -- how many places a shift of a by b moves the bits: from the width on, it moves all of them out
-abbrev pub places : BitVector → BitVector → ℕ
-places a b = min b.pattern a.width
+abbrev pub shift_amount : BitVector → BitVector → ℕ
+shift_amount a b = min b.pattern a.width
 
 unfoldable pub left_shift_of : BitVector → BitVector → BitVector
-left_shift_of a b = value_of a.width a.signed (number a *ℤ pos (2 ^ places a b))
+left_shift_of a b = value_of a.width a.signed (number a *ℤ pos (2 ^ shift_amount a b))
 
 -- zeros come in from above
 unfoldable pub right_shift_of : BitVector → BitVector → BitVector
-right_shift_of a b = record a { pattern = a.pattern / 2 ^ places a b }
+right_shift_of a b = record a { pattern = a.pattern / 2 ^ shift_amount a b }
 
 -- copies of the highest bit come in from above, whatever the sign: the signed number, halved and rounded down at each place
 unfoldable pub sign_shift_of : BitVector → BitVector → BitVector
-sign_shift_of a b = value_of a.width a.signed (int_div_euclid (number (signed_of a)) (pos (2 ^ places a b)))
+sign_shift_of a b = value_of a.width a.signed (int_div_euclid (number (signed_of a)) (pos (2 ^ shift_amount a b)))
 
 unfoldable pub wide_left_shift_of : BitVector → ℕ → BitVector
 wide_left_shift_of a by = value_of (a.width + by) a.signed (number a *ℤ pos (2 ^ by))
@@ -126,19 +127,19 @@ slice_of a high low = let width = high - low + 1 in
 
 -- an index past the width leads to the bit at the width, which is 0
 unfoldable pub bit_of : BitVector → BitVector → BitVector
-bit_of a at = record { width = 1; signed = false; pattern = bit_at a.pattern (places a at) }
+bit_of a at = record { width = 1; signed = false; pattern = bit_at a.pattern (shift_amount a at) }
 
 -- the pattern with so many of its bits from `low` on replaced by those of `part`
-abbrev pub replaced : ℕ → ℕ → ℕ → ℕ → ℕ
-replaced pattern low count part =
+abbrev pub with_field : ℕ → ℕ → ℕ → ℕ → ℕ
+with_field pattern low count part =
     pattern / 2 ^ (low + count) * 2 ^ (low + count) + part * 2 ^ low + pattern % 2 ^ low
 
 unfoldable pub with_slice : BitVector → ℕ → ℕ → BitVector → BitVector
 with_slice a high low value = let count = high - low + 1 in
-    record a { pattern = replaced a.pattern low count (extension count value) }
+    record a { pattern = with_field a.pattern low count (extension count value) }
 
 unfoldable pub with_bit : BitVector → BitVector → BitVector → BitVector
 with_bit a at value =
     if nat_lt at.pattern a.width
-    then record a { pattern = replaced a.pattern (places a at) 1 (value.pattern % 2) }
+    then record a { pattern = with_field a.pattern (shift_amount a at) 1 (value.pattern % 2) }
     else a

@@ -1,4 +1,4 @@
--- Numbers by sign and absolute value.
+-- Machinery: numbers by sign and absolute value.
 use Rattle.std.specs.Prelude.{ℕ, Bool, if◌then◌else◌, ℤ, pos, neg_ℤ}
 
 abbrev pub number_with : Bool → ℕ → ℤ

@@ -3,7 +3,7 @@ ghost use Rattle.std.specs.Prelude.{◌≡◌, ◌+◌, ◌≤◌, ◌<◌, ◌+
 ghost use Rattle.idl_bits.specs.Number.{number, larger, both_signed, value_of};
 ghost use Rattle.idl_bits.specs.Operators.{sum_of, difference_of, product_of, wide_sum_of, wide_difference_of, wide_product_of, negation_of};
 
-use crate::number::{both_signed, larger_width, shaped, whole};
+use crate::number::{both_signed, larger_width, whole, wrap};
 use crate::value::Bits;
 
 /// The sum at a width.
@@ -12,7 +12,7 @@ fn sum_at(width: u8, a: Bits, b: Bits) -> Bits
     requires limit { width ≤ 128 }
     ensures { result ≡ value_of width (both_signed a b) (number a +ℤ number b) }
 {
-    shaped(width, both_signed(a, b), whole(a).wrapping_add(whole(b)))
+    wrap(width, both_signed(a, b), whole(a).wrapping_add(whole(b)))
 }
 
 /// The difference at a width.
@@ -21,7 +21,7 @@ fn difference_at(width: u8, a: Bits, b: Bits) -> Bits
     requires limit { width ≤ 128 }
     ensures { result ≡ value_of width (both_signed a b) (number a -ℤ number b) }
 {
-    shaped(width, both_signed(a, b), whole(a).wrapping_sub(whole(b)))
+    wrap(width, both_signed(a, b), whole(a).wrapping_sub(whole(b)))
 }
 
 /// The product at a width.
@@ -30,7 +30,7 @@ fn product_at(width: u8, a: Bits, b: Bits) -> Bits
     requires limit { width ≤ 128 }
     ensures { result ≡ value_of width (both_signed a b) (number a *ℤ number b) }
 {
-    shaped(width, both_signed(a, b), whole(a).wrapping_mul(whole(b)))
+    wrap(width, both_signed(a, b), whole(a).wrapping_mul(whole(b)))
 }
 
 /// `a + b`, at the larger width.
@@ -82,5 +82,5 @@ pub fn wide_mul(a: Bits, b: Bits) -> Bits
 pub fn neg(a: Bits) -> Bits
     ensures { result ≡ negation_of a }
 {
-    shaped(a.width(), a.signed(), 0u128.wrapping_sub(whole(a)))
+    wrap(a.width(), a.signed(), 0u128.wrapping_sub(whole(a)))
 }

@@ -4,7 +4,7 @@ ghost use Rattle.idl_bits.specs.Number.{number, number_beside, pattern_of};
 ghost use Rattle.idl_bits.specs.Operators.{quotient_of, remainder_of};
 ghost use Rattle.idl_bits.specs.Sign.{number_with};
 
-use crate::number::{both_signed, extended, is_negative, larger_width, ones, shaped, whole};
+use crate::number::{both_signed, extend, is_negative, larger_width, ones, whole, wrap};
 use crate::value::Bits;
 
 /// A number by its sign and its absolute value, which is not 0 where it is negative.
@@ -42,7 +42,7 @@ pub(crate) fn operand(a: Bits, b: Bits) -> Magnitude
     } else {
         Magnitude {
             negative: false,
-            size: extended(a, larger_width(a, b)),
+            size: extend(a, larger_width(a, b)),
         }
     }
 }
@@ -73,7 +73,7 @@ pub fn div(a: Bits, b: Bits) -> Bits
     let dividend = operand(a, b);
     let negative = dividend.negative != divisor.negative;
     let size = dividend.size / divisor.size;
-    shaped(width, signed, signed_whole(negative, size))
+    wrap(width, signed, signed_whole(negative, size))
 }
 
 /// `a % b`, with the sign of a, at the larger width; a itself where b is 0.
@@ -84,9 +84,9 @@ pub fn rem(a: Bits, b: Bits) -> Bits
     let signed = both_signed(a, b);
     let divisor = operand(b, a);
     if divisor.size == 0 {
-        return shaped(width, signed, whole(a));
+        return wrap(width, signed, whole(a));
     }
     let dividend = operand(a, b);
     let size = dividend.size % divisor.size;
-    shaped(width, signed, signed_whole(dividend.negative, size))
+    wrap(width, signed, signed_whole(dividend.negative, size))
 }

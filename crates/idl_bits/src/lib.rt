@@ -12,8 +12,6 @@ mod divisions;
 mod number;
 mod parts;
 mod shifts;
-#[cfg(test)]
-mod tests;
 mod value;
 
 pub use arithmetic::{add, mul, neg, sub, wide_add, wide_mul, wide_sub};

@@ -55,7 +55,7 @@ pub(crate) fn whole(a: Bits) -> u128
 }
 
 /// A value's pattern at another width.
-pub(crate) fn extended(a: Bits, width: u8) -> u128
+pub(crate) fn extend(a: Bits, width: u8) -> u128
     requires positive { 1 ≤ width }
     requires limit { width ≤ 128 }
     ensures { result ≡ extension width a }
@@ -64,7 +64,7 @@ pub(crate) fn extended(a: Bits, width: u8) -> u128
 }
 
 /// The value that holds a number, of which `whole` is any rest that keeps the width's bits.
-pub(crate) fn shaped(width: u8, signed: bool, whole: u128) -> Bits
+pub(crate) fn wrap(width: u8, signed: bool, whole: u128) -> Bits
     requires positive { 1 ≤ width }
     requires limit { width ≤ 128 }
     ensures { result ≡ value_of width signed (pos whole) }

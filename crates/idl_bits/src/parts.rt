@@ -1,9 +1,9 @@
 //! Joins, repeats, slices and bits, and the readings at another sign or width.
 ghost use Rattle.std.specs.Prelude.{◌≡◌, ◌+◌, ◌*◌, ◌^◌, ◌<◌, ◌≤◌};
-ghost use Rattle.idl_bits.specs.Operators.{signed_of, unsigned_of, resized_to, join_of, copies, repeat_of, slice_of, bit_of, replaced, with_slice, with_bit};
+ghost use Rattle.idl_bits.specs.Operators.{signed_of, unsigned_of, resized_to, join_of, copies, repeat_of, slice_of, bit_of, with_field, with_slice, with_bit};
 
-use crate::number::{extended, ones, shaped, whole};
-use crate::shifts::shift_places;
+use crate::number::{extend, ones, whole, wrap};
+use crate::shifts::shift_amount;
 use crate::value::Bits;
 
 /// `$signed(a)`: the same bits, read in two's complement.
@@ -26,7 +26,7 @@ pub fn resize(a: Bits, width: u8) -> Bits
     requires limit { width ≤ 128 }
     ensures { result ≡ resized_to width a }
 {
-    shaped(width, a.signed(), whole(a))
+    wrap(width, a.signed(), whole(a))
 }
 
 /// `{a, b}`: the bits of a above those of b.
@@ -57,22 +57,22 @@ pub fn slice(a: Bits, high: u8, low: u8) -> Bits
     requires within { high < a.width }
     ensures { result ≡ slice_of a high low }
 {
-    shaped(high - low + 1, false, a.pattern() >> low)
+    wrap(high - low + 1, false, a.pattern() >> low)
 }
 
 /// `a[at]`: one bit, which is 0 past the width.
 pub fn bit(a: Bits, at: Bits) -> Bits
     ensures { result ≡ bit_of a at }
 {
-    Bits::new(1, false, a.pattern().unbounded_shr(shift_places(a, at)) & 1)
+    Bits::new(1, false, a.pattern().unbounded_shr(shift_amount(a, at)) & 1)
 }
 
 /// The pattern with `count` of its bits from `low` on replaced by those of `part`.
-fn replaced(pattern: u128, low: u8, count: u8, part: u128) -> u128
+fn with_field(pattern: u128, low: u8, count: u8, part: u128) -> u128
     requires positive { 1 ≤ count }
     requires limit { low + count ≤ 128 }
-    requires fits { part < 2 ^ count }
-    ensures { result ≡ replaced pattern low count part }
+    requires in_width { part < 2 ^ count }
+    ensures { result ≡ with_field pattern low count part }
 {
     let hole = ones(count) << low;
     (pattern & !hole) | (part << low)
@@ -85,11 +85,11 @@ pub fn put_slice(a: Bits, high: u8, low: u8, value: Bits) -> Bits
     ensures { result ≡ with_slice a high low value }
 {
     let count = high - low + 1;
-    let part = extended(value, count);
+    let part = extend(value, count);
     Bits::new(
         a.width(),
         a.signed(),
-        replaced(a.pattern(), low, count, part),
+        with_field(a.pattern(), low, count, part),
     )
 }
 
@@ -104,6 +104,6 @@ pub fn put_bit(a: Bits, at: Bits, value: Bits) -> Bits
     Bits::new(
         a.width(),
         a.signed(),
-        replaced(a.pattern(), place, 1, value.pattern() & 1),
+        with_field(a.pattern(), place, 1, value.pattern() & 1),
     )
 }

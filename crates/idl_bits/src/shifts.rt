@@ -2,21 +2,21 @@
 ghost use Rattle.std.specs.Prelude.{◌≡◌, ◌+◌, ◌^◌, ◌≤◌, pos};
 ghost use Rattle.std.specs.Int.{int_div_euclid};
 ghost use Rattle.idl_bits.specs.Number.{number, pattern_of};
-ghost use Rattle.idl_bits.specs.Operators.{signed_of, places, left_shift_of, right_shift_of, sign_shift_of, wide_left_shift_of};
+ghost use Rattle.idl_bits.specs.Operators.{signed_of, shift_amount, left_shift_of, right_shift_of, sign_shift_of, wide_left_shift_of};
 
-use crate::number::{has_top_bit, ones, shaped, whole};
+use crate::number::{has_top_bit, ones, whole, wrap};
 use crate::value::Bits;
 
 /// How many places a shift of `a` by `b` moves the bits: all of them from the width on.
-pub(crate) fn shift_places(a: Bits, b: Bits) -> u32
-    ensures value { result ≡ places a b }
+pub(crate) fn shift_amount(a: Bits, b: Bits) -> u32
+    ensures value { result ≡ shift_amount a b }
     ensures limit { result ≤ 128 }
 {
     b.pattern().min(u128::from(a.width())) as u32
 }
 
 /// The pattern moved down, under copies of its highest bit.
-fn sign_shifted(a: Bits, by: u32) -> u128
+fn sign_shift(a: Bits, by: u32) -> u128
     requires { by ≤ 128 }
     ensures { result ≡ pattern_of a.width (int_div_euclid (number (signed_of a)) (pos (2 ^ by))) }
 {
@@ -33,10 +33,10 @@ fn sign_shifted(a: Bits, by: u32) -> u128
 pub fn shl(a: Bits, b: Bits) -> Bits
     ensures { result ≡ left_shift_of a b }
 {
-    shaped(
+    wrap(
         a.width(),
         a.signed(),
-        whole(a).unbounded_shl(shift_places(a, b)),
+        whole(a).unbounded_shl(shift_amount(a, b)),
     )
 }
 
@@ -47,7 +47,7 @@ pub fn shr(a: Bits, b: Bits) -> Bits
     Bits::new(
         a.width(),
         a.signed(),
-        a.pattern().unbounded_shr(shift_places(a, b)),
+        a.pattern().unbounded_shr(shift_amount(a, b)),
     )
 }
 
@@ -55,7 +55,7 @@ pub fn shr(a: Bits, b: Bits) -> Bits
 pub fn sar(a: Bits, b: Bits) -> Bits
     ensures { result ≡ sign_shift_of a b }
 {
-    Bits::new(a.width(), a.signed(), sign_shifted(a, shift_places(a, b)))
+    Bits::new(a.width(), a.signed(), sign_shift(a, shift_amount(a, b)))
 }
 
 /// `` a `<< by ``, wider by the places that it moves.
@@ -63,5 +63,5 @@ pub fn wide_shl(a: Bits, by: u8) -> Bits
     requires { a.width + by ≤ 128 }
     ensures { result ≡ wide_left_shift_of a by }
 {
-    shaped(a.width() + by, a.signed(), whole(a) << by)
+    wrap(a.width() + by, a.signed(), whole(a) << by)
 }

@@ -30,7 +30,7 @@ impl Bits {
     pub fn new(width: u8, signed: bool, pattern: u128) -> Bits
         requires positive { 1 ≤ width }
         requires limit { width ≤ 128 }
-        requires fits { pattern < 2 ^ width }
+        requires in_width { pattern < 2 ^ width }
         ensures { result ≡ record { width = width; signed = signed; pattern = pattern } }
     {
         Bits {
@@ -59,7 +59,7 @@ impl Bits {
     /// The bits, as a number below two to the power of the width.
     pub fn pattern(self) -> u128
         ensures value { result ≡ self.pattern }
-        ensures fits { result < 2 ^ self.width }
+        ensures in_width { result < 2 ^ self.width }
     {
         self.pattern
     }

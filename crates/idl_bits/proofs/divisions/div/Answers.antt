@@ -1,5 +1,5 @@
 use Rattle.std.proofs.Common.{◌∙◌}
-use Rattle.idl_bits.proofs.Patterns.{same-parts, shaped-as, all-ones}
+use Rattle.idl_bits.proofs.Patterns.{same-parts, wrap-as, all-ones}
 use Rattle.idl_bits.proofs.Signs.{quotient-none, quotient-some}
 use Rattle.idl_bits.proofs.divisions.div.Goals as goal
 
@@ -11,5 +11,5 @@ returns-then-divisor-eq0 c =
 
 pub returns : goal.returns
 returns c =
-    shaped-as c.shaped.result _ _ _ _ _ _ c.shaped.ensures c.larger_width-width.ensures.limit c.larger_width-width.ensures.value c.both_signed-signed.ensures c.signed_whole.ensures
+    wrap-as c.wrap.result _ _ _ _ _ _ c.wrap.ensures c.larger_width-width.ensures.limit c.larger_width-width.ensures.value c.both_signed-signed.ensures c.signed_whole.ensures
     ∙ quotient-some c.args.a c.args.b _ _ c.operand-divisor.ensures.number _ _ c.operand-dividend.ensures.number c.if-divisor-eq0.false

@@ -9,4 +9,4 @@ returns-then-both_signed-clause-number c = c.magnitude_of.ensures.number ∙ sym
 
 pub returns-else-both_signed-clause-number : goal.returns-else-both_signed-clause-number
 returns-else-both_signed-clause-number c =
-    ap pos (c.extended.ensures ∙ ap (λ w. extension w c.args.a) c.larger_width.ensures.value) ∙ sym (beside-unsigned c.args.a c.args.b (sym c.if-both_signed.ensures))
+    ap pos (c.extend.ensures ∙ ap (λ w. extension w c.args.a) c.larger_width.ensures.value) ∙ sym (beside-unsigned c.args.a c.args.b (sym c.if-both_signed.ensures))

@@ -8,5 +8,5 @@ use Rattle.idl_bits.proofs.parts.slice.Goals as goal
 pub returns : goal.returns
 unfolding slice_of
 returns c =
-    same-parts _ _ _ _ _ _ c.shaped.result c.shaped.ensures refl refl
+    same-parts _ _ _ _ _ _ c.wrap.result c.wrap.ensures refl refl
     (pattern_of-pos _ _ ∙ ap (λ p. p / 2 ^ c.args.low % 2 ^ (c.args.high - c.args.low + 1)) c.pattern.ensures.value)

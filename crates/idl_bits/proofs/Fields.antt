@@ -1,4 +1,4 @@
--- Bits moved to other places, and bits replaced.
+-- Bits moved to other places, and fields of bits written.
 use Rattle.std.proofs.Common.{◌≡◌, ℕ, zero, suc, ◌+◌, ◌-◌, ◌*◌, ◌/◌, ◌%◌, ◌^◌, ◌<◌, ◌≤◌, bit_and, bit_or, pos, true, false, cond, sym, ap, subst, ◌∙◌, arith, ⊎_elim}
 use Rattle.std.specs.Prelude.{ℤ, negsuc, ◌*ℤ◌, if◌then◌else◌, nat_lt}
 use Rattle.std.specs.Int.{int_div_euclid}
@@ -12,7 +12,7 @@ use Rattle.std.proofs.lemmas.Bool.{cases_lt, lt-ltb}
 use borrow.Author.Tests.{le-ltb}
 use Rattle.idl_bits.specs.BitVector.{BitVector}
 use Rattle.idl_bits.specs.Number.{number, pattern_of, has_top_bit}
-use Rattle.idl_bits.specs.Operators.{signed_of, replaced, copies}
+use Rattle.idl_bits.specs.Operators.{signed_of, with_field, copies}
 use Rattle.idl_bits.proofs.Modulo.{pattern_of-small, pattern_of-pos, pattern_of-negsuc, pattern_of-product}
 use Rattle.idl_bits.proofs.Patterns.{number-negative, number-plain, product-whole, wider}
 
@@ -99,11 +99,11 @@ copies-more a n p q u e s f h room =
     one_more : (k : ℕ) → suc k ≡ k + 1
     one_more k = omega arith
 
--- ---- bits replaced
+-- ---- fields of bits
 
-pub replaced-is : (p low count m part : ℕ) → m + 1 ≡ 2 ^ count → low + count ≤ 128 → p < 2 ^ 128 → part < 2 ^ count
-    → bit_or (bit_and p (2 ^ 128 - 1 - m * 2 ^ low % 2 ^ 128)) (part * 2 ^ low % 2 ^ 128) ≡ replaced p low count part
-replaced-is p low count m part e h l f =
+pub with_field-is : (p low count m part : ℕ) → m + 1 ≡ 2 ^ count → low + count ≤ 128 → p < 2 ^ 128 → part < 2 ^ count
+    → bit_or (bit_and p (2 ^ 128 - 1 - m * 2 ^ low % 2 ^ 128)) (part * 2 ^ low % 2 ^ 128) ≡ with_field p low count part
+with_field-is p low count m part e h l f =
     let top = low + count in
     let turned : top ≡ count + low = omega arith in
     let power : 2 ^ top ≡ 2 ^ count * 2 ^ low = ap (λ i. 2 ^ i) turned ∙ pow-add 2 count low in
@@ -127,8 +127,8 @@ replaced-is p low count m part e h l f =
     ∙ (λ i. or_zero_r (p / 2 ^ top) i * 2 ^ top + (or_comm (p % 2 ^ low) (part * 2 ^ low) ∙ or_shifted part low (p % 2 ^ low) below) i)
     ∙ omega arith
 
-pub replaced-lt : (p low count part w : ℕ) → p < 2 ^ w → low + count ≤ w → part < 2 ^ count → replaced p low count part < 2 ^ w
-replaced-lt p low count part w l h f =
+pub with_field-lt : (p low count part w : ℕ) → p < 2 ^ w → low + count ≤ w → part < 2 ^ count → with_field p low count part < 2 ^ w
+with_field-lt p low count part w l h f =
     let top = low + count in
     let turned : top ≡ count + low = omega arith in
     let power : 2 ^ top ≡ 2 ^ count * 2 ^ low = ap (λ i. 2 ^ i) turned ∙ pow-add 2 count low in
