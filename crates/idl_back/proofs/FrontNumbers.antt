@@ -14,7 +14,7 @@ use Rattle.idl_token.specs.Numbers.{SizedParts, Number, Parameter, begins, begin
 use Rattle.idl_token.specs.Values.{IsWord}
 use Rattle.idl_token.specs.Front as f
 use Rattle.idl_tree.specs.Print.{quote_word}
-use Rattle.idl_grammar.specs.Symbol.{number, sized, symbol_by, sized_symbol}
+use Rattle.idl_token.specs.Symbol.{number, sized, symbol_by, sized_symbol}
 use Rattle.idl_back.specs.Piece.{token, flagged, Sits, ends_before}
 use Rattle.idl_back.proofs.FrontBytes.{differs_from, stops, prefix_ends, taken_ends, other_number, no_tail, keeps, sits_token}
 use Rattle.idl_back.proofs.FrontWords.{ends_word, ends_word_from, word_other, word_tail}

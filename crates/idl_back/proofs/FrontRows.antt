@@ -32,21 +32,21 @@ pub sign_outside : (x : Sign) (s : List ℕ) → ends_sign s ≡ true → Sits f
 sign_outside x s e = sign_sits false x s refl e
 
 -- whether the piece is such a token or byte and stands before the text
-abbrev pub piece_fits : Bool → Piece → List ℕ → Bool
-piece_fits w (gap c) s = (c == 32) || (c == 10)
-piece_fits w (token (k.Sign x) y) s = bytes_eq y (sign_text x) && (not (begins 62 (sign_text x) && w) && (not (goes_on x) || ends_sign s))
-piece_fits w (token (k.Reserved x) y) s = bytes_eq y (reserved_text x) && (keeps_flag (k.Reserved x) && ends_before s)
-piece_fits w (token (k.Special p) y) s = bytes_eq y (special_text p) && keeps_flag (k.Special p)
-piece_fits w (token _ y) s = false
+abbrev pub piece_stands : Bool → Piece → List ℕ → Bool
+piece_stands w (gap c) s = (c == 32) || (c == 10)
+piece_stands w (token (k.Sign x) y) s = bytes_eq y (sign_text x) && (not (begins 62 (sign_text x) && w) && (not (goes_on x) || ends_sign s))
+piece_stands w (token (k.Reserved x) y) s = bytes_eq y (reserved_text x) && (keeps_flag (k.Reserved x) && ends_before s)
+piece_stands w (token (k.Special p) y) s = bytes_eq y (special_text p) && keeps_flag (k.Special p)
+piece_stands w (token _ y) s = false
 
-abbrev pub row_fits : Bool → List Piece → List ℕ → Bool
-row_fits w [] s = true
-row_fits w (p ∷ ps) s = piece_fits w p (text_of ps ++ s) && row_fits w ps s
+abbrev pub row_stands : Bool → List Piece → List ℕ → Bool
+row_stands w [] s = true
+row_stands w (p ∷ ps) s = piece_stands w p (text_of ps ++ s) && row_stands w ps s
 
 same_text : (x y : List ℕ) → bytes_eq x y ≡ true → y ≡ x
 same_text x y h = sym ((bytes_eq-Decides x y).0 h)
 
-piece_sits : (w : Bool) (p : Piece) (s : List ℕ) → piece_fits w p s ≡ true → Sits w (p ∷ []) s w
+piece_sits : (w : Bool) (p : Piece) (s : List ℕ) → piece_stands w p s ≡ true → Sits w (p ∷ []) s w
 piece_sits w (gap c) s h = sits_gap w c s h
 piece_sits w (token (k.Sign x) y) s h =
     let one = and_parts (bytes_eq y (sign_text x)) (not (begins 62 (sign_text x) && w) && (not (goes_on x) || ends_sign s)) h in
@@ -68,10 +68,10 @@ piece_sits w (token k.Text y) s h = absurd (true≢false (sym h))
 piece_sits w (token k.Description y) s h = absurd (true≢false (sym h))
 
 -- by `refl` where all is written out, and what follows is too as far as the last piece asks
-pub row_sits : (w : Bool) (ps : List Piece) (s : List ℕ) → row_fits w ps s ≡ true → Sits w ps s w
+pub row_sits : (w : Bool) (ps : List Piece) (s : List ℕ) → row_stands w ps s ≡ true → Sits w ps s w
 row_sits w [] s h = sits_none w s
 row_sits w (p ∷ ps) s h =
-    let one = and_parts (piece_fits w p (text_of ps ++ s)) (row_fits w ps s) h in
+    let one = and_parts (piece_stands w p (text_of ps ++ s)) (row_stands w ps s) h in
     sits_append w w w (p ∷ []) ps s (piece_sits w p (text_of ps ++ s) one.0) (row_sits w ps s one.1)
 
 -- a sign between two spaces
@@ -82,18 +82,18 @@ spaced_sits x s =
 
 -- ---- with words, numbers and texts among them
 
-abbrev pub PieceFits : Bool → Piece → List ℕ → Type 0
-PieceFits w (token k.Word y) s = IsWord y × (0 < length y) × (ends_before s ≡ true)
-PieceFits w (token k.Number y) s = (n : ℕ) × (n < 2 ^ 128) × (y ≡ decimal n) × (ends_before s ≡ true)
-PieceFits w (token k.Text y) s = (x : List ℕ) × (list_all is_no_quote x ≡ true) × (y ≡ between_quotes x)
-PieceFits w (token k.Sized y) s = Sits w (token k.Sized y ∷ []) s w
-PieceFits w p s = piece_fits w p s ≡ true
+abbrev pub PieceStands : Bool → Piece → List ℕ → Type 0
+PieceStands w (token k.Word y) s = IsWord y × (0 < length y) × (ends_before s ≡ true)
+PieceStands w (token k.Number y) s = (n : ℕ) × (n < 2 ^ 128) × (y ≡ decimal n) × (ends_before s ≡ true)
+PieceStands w (token k.Text y) s = (x : List ℕ) × (list_all is_no_quote x ≡ true) × (y ≡ between_quotes x)
+PieceStands w (token k.Sized y) s = Sits w (token k.Sized y ∷ []) s w
+PieceStands w p s = piece_stands w p s ≡ true
 
-abbrev pub RowFits : Bool → List Piece → List ℕ → Type 0
-RowFits w [] s = Unit {0}
-RowFits w (p ∷ ps) s = PieceFits w p (text_of ps ++ s) × RowFits w ps s
+abbrev pub RowStands : Bool → List Piece → List ℕ → Type 0
+RowStands w [] s = Unit {0}
+RowStands w (p ∷ ps) s = PieceStands w p (text_of ps ++ s) × RowStands w ps s
 
-mixed_piece : (w : Bool) (p : Piece) (s : List ℕ) → PieceFits w p s → Sits w (p ∷ []) s w
+mixed_piece : (w : Bool) (p : Piece) (s : List ℕ) → PieceStands w p s → Sits w (p ∷ []) s w
 mixed_piece w (gap c) s h = piece_sits w (gap c) s h
 mixed_piece w (token k.Word y) s h = word_sits w y s h.0 h.1 h.2
 mixed_piece w (token k.Number y) s h = subst (λ (z : List ℕ). Sits w (token k.Number z ∷ []) s w) (sym h.2) (number_sits w h.0 s h.1 h.3)
@@ -104,6 +104,6 @@ mixed_piece w (token (k.Reserved x) y) s h = piece_sits w (token (k.Reserved x) 
 mixed_piece w (token (k.Special x) y) s h = piece_sits w (token (k.Special x) y) s h
 mixed_piece w (token k.Description y) s h = piece_sits w (token k.Description y) s h
 
-pub mixed_sits : (w : Bool) (ps : List Piece) (s : List ℕ) → RowFits w ps s → Sits w ps s w
+pub mixed_sits : (w : Bool) (ps : List Piece) (s : List ℕ) → RowStands w ps s → Sits w ps s w
 mixed_sits w [] s h = sits_none w s
 mixed_sits w (p ∷ ps) s h = sits_append w w w (p ∷ []) ps s (mixed_piece w p (text_of ps ++ s) h.0) (mixed_sits w ps s h.1)

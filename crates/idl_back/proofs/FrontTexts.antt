@@ -7,7 +7,7 @@ use Rattle.idl_token.specs.declared.kinds.TokenKind.TheVariants as k
 use Rattle.idl_token.specs.declared.front.Front.TheVariants.{Token, Nothing}
 use Rattle.idl_token.specs.Numbers.{text_value}
 use Rattle.idl_token.specs.Front as f
-use Rattle.idl_grammar.specs.Symbol.{quoted, symbol_by}
+use Rattle.idl_token.specs.Symbol.{quoted, symbol_by}
 use Rattle.idl_back.specs.Piece.{token, flagged, Sits, between_quotes}
 use Rattle.idl_back.proofs.FrontBytes.{prefix_ends, no_special, other_first, plain_front, plain_other, keeps, sits_token}
 

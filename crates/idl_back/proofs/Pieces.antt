@@ -8,7 +8,7 @@ use Rattle.idl_token.specs.Lexeme.{Lexeme, lexeme}
 use Rattle.idl_token.specs.Front.{start, after, front_at}
 use Rattle.idl_token.specs.Rows as row
 use Rattle.idl_token.specs.Rows.{Reads, IsRow}
-use Rattle.idl_grammar.specs.Symbol.{Symbol, symbols, symbol_by}
+use Rattle.idl_token.specs.Symbol.{Symbol, symbols, symbol_by}
 use Rattle.idl_back.specs.Piece.{Piece, token, gap, piece_text, text_of, lexemes_from, symbols_of, Stands, state_after, flagged, Sits}
 
 -- ---- one row behind another

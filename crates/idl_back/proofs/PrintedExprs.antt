@@ -2,7 +2,7 @@
 use Rattle.std.proofs.Common.{ℕ, suc, true, false, List, map, arith}
 use Rattle.idl_tree.specs.declared.expressions.Expr.{Expr}
 use Rattle.idl_tree.specs.Print.{commas, expr_text}
-use Rattle.idl_grammar.specs.Symbol.{Symbol}
+use Rattle.idl_token.specs.Symbol.{Symbol}
 use Rattle.idl_grammar.specs.Tables.{mxlen}
 use Rattle.idl_grammar.specs.ExprGrammar as g
 use Rattle.idl_grammar.specs.ExprGrammar.{Inside, ReadsPost, ReadsLevel, ReadsBinary, ReadsChoice, ReadsExpr, ReadsArgs, ReadsInside, ReadsBraced}

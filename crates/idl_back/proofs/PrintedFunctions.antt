@@ -11,12 +11,13 @@ use Rattle.idl_tree.specs.declared.statements.Stmt.{Stmt}
 use Rattle.idl_tree.specs.declared.programs.Argument.{Argument}
 use Rattle.idl_tree.specs.declared.programs.Body.{Body}
 use Rattle.idl_tree.specs.declared.programs.Function.{Function}
-use Rattle.idl_tree.specs.Print.{Lines, shape_text, commas, indented, stmt_lines}
+use Rattle.udb_base.specs.Lines.{Lines}
+use Rattle.idl_tree.specs.Print.{shape_text, commas, indented, stmt_lines}
 use Rattle.idl_tree.specs.PrintFunctions.{argument_text, arguments_text, returns_lines, arguments_lines, block_lines, function_lines, functions_text}
 use Rattle.idl_tree.proofs.Margins.{margined-one, margined-twice}
 use Rattle.idl_tree.proofs.FunctionLemmas.{argument-is, returns-None, returns-Some, arguments-none, arguments-some, block-is, function-is}
-use Rattle.idl_grammar.specs.Symbol.{Symbol, symbols}
-use Rattle.idl_grammar.specs.Symbol as t
+use Rattle.idl_token.specs.Symbol.{Symbol, symbols}
+use Rattle.idl_token.specs.Symbol as t
 use Rattle.idl_grammar.specs.Faults.{OfFunctions, ReadsWithin}
 use Rattle.idl_grammar.specs.StmtGrammar as g
 use Rattle.idl_grammar.specs.StmtGrammar.{ReadsResult, ReadsArgument, ReadsArguments, ReadsTaken, ReadsAbout, ReadsStmts, ReadsFunction, ReadsFunctions}

@@ -3,9 +3,10 @@ use Rattle.std.proofs.Common.{◌≡◌, ℕ, ◌==◌, true, false, List, [], �
 use Rattle.std.specs.List.{flat_map, list_all}
 use Rattle.std.proofs.lemmas.Bool.{and_parts, and_from, or_left}
 use Rattle.idl_tree.specs.declared.statements.Stmt.{Stmt}
-use Rattle.idl_tree.specs.Print.{Lines, margined, indented, enclosed, stmt_lines, text_of_lines}
+use Rattle.udb_base.specs.Lines.{Lines, text_of_lines}
+use Rattle.idl_tree.specs.Print.{margined, indented, enclosed, stmt_lines}
 use Rattle.idl_tree.proofs.Margins.{margined-append, margined-nil, margined-one, margined-twice, lines_of}
-use Rattle.idl_grammar.specs.Symbol.{Symbol}
+use Rattle.idl_token.specs.Symbol.{Symbol}
 use Rattle.idl_back.specs.Piece.{Piece, gap, text_of, symbols_of, Sits, ends_before}
 use Rattle.idl_back.proofs.FrontBytes.{sits_gap}
 use Rattle.idl_back.proofs.PrintedTexts.{Lexed, Reading, Put, Shows, put, fit}

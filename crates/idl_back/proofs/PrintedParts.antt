@@ -19,8 +19,8 @@ use Rattle.idl_tree.specs.declared.expressions.Expr.{Expr}
 use Rattle.idl_tree.specs.declared.expressions.Expr.TheVariants as e
 use Rattle.idl_tree.specs.Print.{Form, within, width_form, width_text, expr_form, expr_text, quote_word, commas, call_text}
 use Rattle.idl_tree.proofs.Printed as f
-use Rattle.idl_grammar.specs.Symbol.{Symbol}
-use Rattle.idl_grammar.specs.Symbol as t
+use Rattle.idl_token.specs.Symbol.{Symbol}
+use Rattle.idl_token.specs.Symbol as t
 use Rattle.idl_grammar.specs.Tables.{Infix, plain, wide, binding, unary_of, enum_of, sized_width, width_if, is_short, is_access, mxlen, sw_read}
 use Rattle.idl_grammar.specs.ExprGrammar as g
 use Rattle.idl_grammar.specs.ExprGrammar.{Inside, place, slice, part_of, ReadsPost, ReadsLevel, ReadsBinary, ReadsChoice, ReadsExpr, ReadsArgs, ReadsInside}

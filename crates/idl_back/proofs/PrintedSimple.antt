@@ -14,8 +14,8 @@ use Rattle.idl_tree.specs.declared.statements.Stmt.{Stmt}
 use Rattle.idl_tree.specs.declared.statements.Stmt.TheVariants as st
 use Rattle.idl_tree.specs.Print.{width_text, expr_text, shape_text, target_text, call_text, for_text, if_text, commas, stmt_lines}
 use Rattle.idl_tree.proofs.Printed as f
-use Rattle.idl_grammar.specs.Symbol.{Symbol}
-use Rattle.idl_grammar.specs.Symbol as t
+use Rattle.idl_token.specs.Symbol.{Symbol}
+use Rattle.idl_token.specs.Symbol as t
 use Rattle.idl_grammar.specs.Tables.{is_access, mxlen, sw_write}
 use Rattle.idl_grammar.specs.ExprGrammar.{Inside, place, slice, ReadsArgs}
 use Rattle.idl_grammar.specs.StmtGrammar as g

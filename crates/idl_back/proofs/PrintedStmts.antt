@@ -10,11 +10,12 @@ use Rattle.idl_tree.specs.declared.widths.Width.{Width}
 use Rattle.idl_tree.specs.declared.expressions.Expr.{Expr}
 use Rattle.idl_tree.specs.declared.statements.Stmt.{Stmt}
 use Rattle.idl_tree.specs.declared.statements.Stmt.TheVariants as st
-use Rattle.idl_tree.specs.Print.{Lines, if_text, for_text, else_lines, stmt_lines, margined, text_of_lines}
+use Rattle.udb_base.specs.Lines.{Lines, text_of_lines}
+use Rattle.idl_tree.specs.Print.{if_text, for_text, else_lines, stmt_lines, margined}
 use Rattle.idl_tree.proofs.Printed.{stmt_lines-Block, stmt_lines-If, stmt_lines-For}
 use Rattle.idl_tree.proofs.Margins.{margined-none}
-use Rattle.idl_grammar.specs.Symbol.{Symbol, symbols}
-use Rattle.idl_grammar.specs.Symbol as t
+use Rattle.idl_token.specs.Symbol.{Symbol, symbols}
+use Rattle.idl_token.specs.Symbol as t
 use Rattle.idl_grammar.specs.Faults.{OfBody, ReadsWithin}
 use Rattle.idl_grammar.specs.StmtGrammar as g
 use Rattle.idl_grammar.specs.StmtGrammar.{ReadsStmt, ReadsElse, ReadsStmts}

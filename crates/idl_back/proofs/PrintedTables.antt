@@ -27,45 +27,9 @@ SumFact c (Some op) =
     × ((a b : Width) → width_form (op a b) ≡ (2, within 2 (width_form a) ++ text_of (signed c ∷ []) ++ within 1 (width_form b)))
 
 pub sum_fact : (c : Sign) → SumFact c (summing c)
-sum_fact s.OpenParen = tt
-sum_fact s.CloseParen = tt
-sum_fact s.OpenBracket = tt
-sum_fact s.CloseBracket = tt
-sum_fact s.OpenBrace = tt
-sum_fact s.CloseBrace = tt
-sum_fact s.Less = tt
-sum_fact s.Greater = tt
-sum_fact s.Comma = tt
-sum_fact s.Semicolon = tt
-sum_fact s.Colon = tt
-sum_fact s.Dot = tt
-sum_fact s.Path = tt
-sum_fact s.Question = tt
-sum_fact s.Assign = tt
-sum_fact s.Equal = tt
-sum_fact s.NotEqual = tt
-sum_fact s.AtMost = tt
-sum_fact s.AtLeast = tt
-sum_fact s.Left = tt
-sum_fact s.Right = tt
-sum_fact s.RightSigned = tt
-sum_fact s.WideLeft = tt
-sum_fact s.WidePlus = tt
-sum_fact s.WideMinus = tt
-sum_fact s.WideTimes = tt
 sum_fact s.Plus = (λ v y b. sign_within v s.Plus y refl (part_ends y b), λ y. refl, width_form-Plus)
 sum_fact s.Minus = (λ v y b. sign_within v s.Minus y refl (part_ends y b), λ y. refl, width_form-Minus)
-sum_fact s.Times = tt
-sum_fact s.Divide = tt
-sum_fact s.Remainder = tt
-sum_fact s.Ampersand = tt
-sum_fact s.Bar = tt
-sum_fact s.Caret = tt
-sum_fact s.Tilde = tt
-sum_fact s.Not = tt
-sum_fact s.And = tt
-sum_fact s.Or = tt
-sum_fact s.Increment = tt
+sum_fact _ = tt
 
 -- ---- what stands between operands
 
@@ -84,21 +48,8 @@ InfixFact c None = Unit {0}
 InfixFact c (Some p) = (d : ℕ) × (rise d (suc p.0) ≡ 10) × (infix_word p.1 ≡ text_of (spaced c))
 
 pub infix_fact : (c : Sign) → InfixFact c (binding c)
-infix_fact s.OpenParen = tt
-infix_fact s.CloseParen = tt
-infix_fact s.OpenBracket = tt
-infix_fact s.CloseBracket = tt
-infix_fact s.OpenBrace = tt
-infix_fact s.CloseBrace = tt
 infix_fact s.Less = (6, refl, refl)
 infix_fact s.Greater = (6, refl, refl)
-infix_fact s.Comma = tt
-infix_fact s.Semicolon = tt
-infix_fact s.Colon = tt
-infix_fact s.Dot = tt
-infix_fact s.Path = tt
-infix_fact s.Question = tt
-infix_fact s.Assign = tt
 infix_fact s.Equal = (5, refl, refl)
 infix_fact s.NotEqual = (5, refl, refl)
 infix_fact s.AtMost = (6, refl, refl)
@@ -118,11 +69,9 @@ infix_fact s.Remainder = (9, refl, refl)
 infix_fact s.Ampersand = (4, refl, refl)
 infix_fact s.Bar = (2, refl, refl)
 infix_fact s.Caret = (3, refl, refl)
-infix_fact s.Tilde = tt
-infix_fact s.Not = tt
 infix_fact s.And = (1, refl, refl)
 infix_fact s.Or = (0, refl, refl)
-infix_fact s.Increment = tt
+infix_fact _ = tt
 
 -- ---- what stands before an operand
 
@@ -131,45 +80,10 @@ UnaryFact c None = Unit {0}
 UnaryFact c (Some op) = (unary_word op ≡ text_of (signed c ∷ [])) × (begins_part (text_of (signed c ∷ [])) ≡ true)
 
 pub unary_fact : (c : Sign) → UnaryFact c (unary_of c)
-unary_fact s.OpenParen = tt
-unary_fact s.CloseParen = tt
-unary_fact s.OpenBracket = tt
-unary_fact s.CloseBracket = tt
-unary_fact s.OpenBrace = tt
-unary_fact s.CloseBrace = tt
-unary_fact s.Less = tt
-unary_fact s.Greater = tt
-unary_fact s.Comma = tt
-unary_fact s.Semicolon = tt
-unary_fact s.Colon = tt
-unary_fact s.Dot = tt
-unary_fact s.Path = tt
-unary_fact s.Question = tt
-unary_fact s.Assign = tt
-unary_fact s.Equal = tt
-unary_fact s.NotEqual = tt
-unary_fact s.AtMost = tt
-unary_fact s.AtLeast = tt
-unary_fact s.Left = tt
-unary_fact s.Right = tt
-unary_fact s.RightSigned = tt
-unary_fact s.WideLeft = tt
-unary_fact s.WidePlus = tt
-unary_fact s.WideMinus = tt
-unary_fact s.WideTimes = tt
-unary_fact s.Plus = tt
 unary_fact s.Minus = (refl, refl)
-unary_fact s.Times = tt
-unary_fact s.Divide = tt
-unary_fact s.Remainder = tt
-unary_fact s.Ampersand = tt
-unary_fact s.Bar = tt
-unary_fact s.Caret = tt
 unary_fact s.Tilde = (refl, refl)
 unary_fact s.Not = (refl, refl)
-unary_fact s.And = tt
-unary_fact s.Or = tt
-unary_fact s.Increment = tt
+unary_fact _ = tt
 
 -- ---- words of the kinds of members
 
@@ -178,34 +92,7 @@ EnumFact c None = Unit {0}
 EnumFact c (Some kind) = (enum_word kind ≡ reserved_text c) × (keeps_flag (k.Reserved c) ≡ true)
 
 pub enum_fact : (c : Reserved) → EnumFact c (enum_of c)
-enum_fact r.Bits = tt
-enum_fact r.Boolean = tt
-enum_fact r.XReg = tt
-enum_fact r.U32 = tt
-enum_fact r.U64 = tt
-enum_fact r.Signed = tt
-enum_fact r.True = tt
-enum_fact r.False = tt
-enum_fact r.If = tt
-enum_fact r.Else = tt
-enum_fact r.For = tt
-enum_fact r.Return = tt
-enum_fact r.Function = tt
-enum_fact r.Returns = tt
-enum_fact r.Arguments = tt
-enum_fact r.Description = tt
-enum_fact r.Body = tt
-enum_fact r.X = tt
-enum_fact r.Csr = tt
-enum_fact r.Max = tt
-enum_fact r.Mode = tt
-enum_fact r.Xlen = tt
-enum_fact r.Jump = tt
-enum_fact r.Raise = tt
-enum_fact r.ReadMemory = tt
-enum_fact r.WriteMemory = tt
 enum_fact r.PrivilegeMode = (refl, refl)
 enum_fact r.ExceptionCode = (refl, refl)
 enum_fact r.CsrFieldType = (refl, refl)
-enum_fact r.ExtensionName = tt
-enum_fact r.CsrValue = tt
+enum_fact _ = tt

@@ -8,8 +8,8 @@ use Rattle.idl_token.specs.declared.kinds.TokenKind.{TokenKind}
 use Rattle.idl_token.specs.declared.kinds.TokenKind.TheVariants as k
 use Rattle.idl_token.specs.declared.before.Before.{Before}
 use Rattle.idl_token.specs.Spelling.{reserved_text, special_text, sign_text}
-use Rattle.idl_grammar.specs.Symbol.{Symbol, symbol_by}
-use Rattle.idl_grammar.specs.Symbol as t
+use Rattle.idl_token.specs.Symbol.{Symbol, symbol_by}
+use Rattle.idl_token.specs.Symbol as t
 use Rattle.idl_back.specs.Piece.{Piece, token, gap, text_of, symbols_of, Stands, flagged, Sits, ends_before, begins_part}
 use Rattle.idl_back.specs.Spelled.{IsSpelledSymbol}
 use Rattle.idl_back.proofs.Pieces.{text_append, symbols_append, stands_append}
@@ -17,7 +17,7 @@ use Rattle.idl_back.proofs.FrontWords.{word_sits}
 use Rattle.idl_back.proofs.FrontSigns.{part_ends}
 use Rattle.idl_back.proofs.FrontNumbers.{number_sits, number_symbol}
 use Rattle.idl_back.proofs.FrontParts.{part_append}
-use Rattle.idl_back.proofs.FrontRows.{row_fits, row_sits, sign_outside}
+use Rattle.idl_back.proofs.FrontRows.{row_stands, row_sits, sign_outside}
 
 -- the text is pieces with these symbols, which stand where the flag holds
 pub record Lexed (v : Bool) (x : List ℕ) (ts : List Symbol) : Type 0 where
@@ -71,7 +71,7 @@ named x = token k.Word x
 abbrev pub numbered : ℕ → Piece
 numbered n = token k.Number (decimal n)
 
-pub put_row : {v : Bool} {x : List ℕ} {us : List Symbol} (qs : List Piece) → Lexed v x us → row_fits v qs x ≡ true → Lexed v (text_of qs ++ x) (symbols_of qs ++ us)
+pub put_row : {v : Bool} {x : List ℕ} {us : List Symbol} (qs : List Piece) → Lexed v x us → row_stands v qs x ≡ true → Lexed v (text_of qs ++ x) (symbols_of qs ++ us)
 put_row {v} {x} qs l e = put qs l (row_sits v qs x e)
 
 -- ---- texts that read in some way

@@ -9,8 +9,8 @@ use Rattle.idl_tree.specs.declared.widths.Width.{Width}
 use Rattle.idl_tree.specs.declared.widths.Width.TheVariants as w
 use Rattle.idl_tree.specs.Print.{Form, within, width_form, field_text}
 use Rattle.idl_tree.proofs.Printed.{width_form-Number, width_form-Word, width_form-Times, width_form-Max, width_form-Bits}
-use Rattle.idl_grammar.specs.Symbol.{Symbol}
-use Rattle.idl_grammar.specs.Symbol as t
+use Rattle.idl_token.specs.Symbol.{Symbol}
+use Rattle.idl_token.specs.Symbol as t
 use Rattle.idl_grammar.specs.Tables.{summing, is_short}
 use Rattle.idl_grammar.specs.WidthGrammar as g
 use Rattle.idl_grammar.specs.WidthGrammar.{ReadsWatom, ReadsTerm, ReadsSum, ReadsWidth}

@@ -22,7 +22,7 @@ use Rattle.idl_token.specs.Front as f
 use Rattle.idl_token.specs.Rows.{Reads, done, gap, token, IsRow, IsSlice}
 use Rattle.idl_token.proofs.RowLemmas.{row-slices}
 use Rattle.idl_token.proofs.ValueLemmas.{row-spelled, begins-take}
-use Rattle.idl_grammar.specs.Symbol.{sized, symbols, symbol_by}
+use Rattle.idl_token.specs.Symbol.{sized, symbols, symbol_by}
 use Rattle.idl_back.specs.Spelled.{IsSpelledSymbol, AreSpelled}
 use Rattle.idl_back.proofs.FrontBytes.{differs_from, stops, prefix_ends}
 use Rattle.idl_back.proofs.FrontNumbers.{no_quotes}

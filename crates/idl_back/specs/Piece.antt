@@ -1,14 +1,17 @@
--- Printed text as a row of pieces: tokens with their texts, and the bytes between them.
+-- Machinery: printed text as a row of pieces, tokens with their texts and the bytes between them.
 use Rattle.std.specs.Prelude.{◌≡◌, ℕ, ◌+◌, Bool, true, false, not, ◌&&◌, ◌||◌, ◌==◌, List, [], ◌∷◌, ◌++◌, length, codes}
 use Rattle.std.specs.List.{flat_map}
 use Rattle.idl_token.specs.declared.kinds.Sign.{Sign}
 use Rattle.idl_token.specs.declared.kinds.Sign.TheVariants as g
 use Rattle.idl_token.specs.declared.kinds.TokenKind.{TokenKind}
+use Rattle.idl_token.specs.declared.kinds.TokenKind.TheVariants as kind
 use Rattle.idl_token.specs.declared.before.Before.{Before}
 use Rattle.idl_token.specs.declared.front.Front.TheVariants.{Gap, Token}
 use Rattle.idl_token.specs.Front.{after, front_at, is_description, is_greater, is_word_byte, takes_width}
+use Rattle.idl_token.specs.Spelling.{sign_text}
+use Rattle.idl_token.specs.Numbers.{begins}
 use Rattle.idl_token.specs.Lexeme.{Lexeme, lexeme}
-use Rattle.idl_grammar.specs.Symbol.{Symbol, symbol_by}
+use Rattle.idl_token.specs.Symbol.{Symbol, symbol_by}
 
 pub data Piece : Type 0 where
   token : TokenKind → List ℕ → Piece
@@ -52,6 +55,10 @@ flagged w = record { takes_width = false; in_width = w; describes = false; in_de
 pub record Sits (v : Bool) (ps : List Piece) (s : List ℕ) (w : Bool) : Type 0 where
   pub stands : Stands (flagged v) ps s
   pub leaves : state_after (flagged v) ps ≡ flagged w
+
+-- a text that is read as one token of the kind before such a rest, and leaves the flag as it is
+abbrev pub ReadsAsToken : Bool → TokenKind → List ℕ → List ℕ → Type 0
+ReadsAsToken w k x s = Sits w (token k x ∷ []) s w
 
 -- such a token takes no width, begins no description and ends no width
 abbrev pub keeps_flag : TokenKind → Bool
@@ -100,3 +107,15 @@ goes_on _ = false
 -- a text between quote marks
 abbrev pub between_quotes : List ℕ → List ℕ
 between_quotes x = codes "\"" ++ x ++ codes "\""
+
+-- the sign that opens a width, behind the token that takes it
+abbrev pub width_opens : TokenKind → List ℕ → List Piece
+width_opens k x = token k x ∷ token (kind.Sign g.Less) (sign_text g.Less) ∷ []
+
+-- a sign with a space on either side
+abbrev pub between_spaces : Sign → List Piece
+between_spaces x = gap 32 ∷ token (kind.Sign x) (sign_text x) ∷ gap 32 ∷ []
+
+-- in a width a sign that begins with `>` is no token
+abbrev pub ends_width : Bool → Sign → Bool
+ends_width w x = w && begins 62 (sign_text x)

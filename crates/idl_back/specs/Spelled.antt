@@ -1,10 +1,10 @@
--- What is known of the symbols of a row's tokens.
+-- Machinery: what is known of the values of a row's tokens.
 use Rattle.std.specs.Prelude.{◌≡◌, ◌<◌, ◌^◌, true, List, [], ◌∷◌, length}
 use Rattle.std.specs.List.{list_all}
 use Rattle.idl_token.specs.Numbers.{Number, Parameter}
 use Rattle.idl_token.specs.Values.{IsWord}
 use Rattle.idl_token.specs.Front.{is_no_quote}
-use Rattle.idl_grammar.specs.Symbol.{Symbol, word, number, sized, quoted}
+use Rattle.idl_token.specs.Symbol.{Symbol, word, number, sized, quoted}
 
 -- words are words, numbers are below 2 ^ 128, and texts have no quote mark
 abbrev pub IsSpelledSymbol : Symbol → Type 0

@@ -1,13 +1,13 @@
 -- The machine's verdict is the readers' one.
 use Rattle.std.proofs.Common.{◌≡◌, ◌+◌, false, List, [], ◌∷◌, length, ℕ, Ok, Err, Result, refl, ap, ◌∙◌}
-use Rattle.idl_grammar.specs.Symbol.{Symbol}
+use Rattle.idl_token.specs.Symbol.{Symbol}
 use Rattle.idl_grammar.specs.StmtReader.{whole_body, whole_functions}
-use Rattle.idl_seen.specs.declared.views.Seen.{Seen}
-use Rattle.idl_seen.specs.Seen.{symbols}
-use Rattle.idl_machine.specs.Machine as m
-use Rattle.idl_machine.specs.Verdict.{verdict, left_at}
-use Rattle.idl_machine.proofs.Verdicts.{runs_one}
-use Rattle.idl_machine.proofs.Functions.{body_runs, functions_run}
+use Rattle.idl_token.specs.declared.views.Seen.{Seen}
+use Rattle.idl_token.specs.Seen.{symbols}
+use Rattle.idl_fault.specs.Machine as m
+use Rattle.idl_fault.specs.Verdict.{verdict, left_at}
+use Rattle.idl_fault.proofs.Verdicts.{runs_one}
+use Rattle.idl_fault.proofs.FunctionRuns.{body_runs, functions_run}
 use Rattle.idl_fault.proofs.Stacks.{seen_length}
 
 left_at_verdict : {A : Type 0} (r : Result A (List Symbol)) → left_at (verdict r) ≡ left_at r

@@ -1,11 +1,11 @@
 -- Turns of the code's machine as steps of the machine.
 use Rattle.std.proofs.Common.{◌≡◌, Bool, true, false, cond, List, [], ◌∷◌, Option, Some, None, Ok, Err, Bor, refl, ap, subst, ◌∙◌}
 use Rattle.std.specs.Prelude.{option_map}
-use Rattle.idl_grammar.specs.Symbol.{Symbol}
-use Rattle.idl_seen.specs.declared.views.Seen.{Seen}
-use Rattle.idl_seen.specs.Seen.{symbols}
-use Rattle.idl_machine.specs.Machine as m
-use Rattle.idl_machine.proofs.Steps.{Leads, runs_by}
+use Rattle.idl_token.specs.Symbol.{Symbol}
+use Rattle.idl_token.specs.declared.views.Seen.{Seen}
+use Rattle.idl_token.specs.Seen.{symbols}
+use Rattle.idl_fault.specs.Machine as m
+use Rattle.idl_fault.proofs.Steps.{Leads, runs_by}
 use Rattle.idl_fault.specs.declared.parts.State.{State}
 use Rattle.idl_fault.specs.declared.parts.Turn.TheVariants as turn
 use Rattle.idl_fault.specs.Views.{state_of, after_state, turn_of, verdict_by}

@@ -1,13 +1,15 @@
 -- The levels of the signs between operands.
-use Rattle.std.proofs.Common.{◌≡◌, ℕ, suc, ◌-◌, ◌<◌, [], ◌∷◌, Option, Some, None, refl, arith}
-use Rattle.idl_grammar.specs.Tables.{Infix, plain, wide}
-use Rattle.idl_machine.specs.Machine as m
-use Rattle.idl_fault.specs.Views.{level, infix_by}
+use Rattle.std.proofs.Common.{◌≡◌, ℕ, suc, ◌-◌, ◌<◌, [], ◌∷◌, refl, arith}
+use Rattle.idl_token.specs.declared.kinds.Sign.{Sign}
+use Rattle.idl_token.specs.declared.kinds.Sign.TheVariants as s
+use Rattle.idl_token.specs.Precedence.{precedence}
+use Rattle.idl_grammar.specs.Tables.{binding}
+use Rattle.idl_fault.specs.Machine as m
+use Rattle.idl_fault.specs.Views.{infix_by, is_wide}
 
-pub infix_is : (k : ℕ) (o : Option (ℕ × Infix)) → m.infix_plan k o ≡ infix_by k (level o)
-infix_is k None = refl
-infix_is k (Some (j, plain op)) = refl
-infix_is k (Some (j, wide)) = refl
+pub infix_is : (k : ℕ) (c : Sign) → m.infix_plan k (binding c) ≡ infix_by k (precedence c) (is_wide c)
+infix_is k s.OpenParen = refl
+infix_is k _ = refl
 
 pub onward_none : (k : ℕ) → k ≡ 0 → m.onward_plan k ≡ m.passes []
 onward_none k is = rw is refl

@@ -1,3 +1,12 @@
+pub mod Steps
+pub mod Both
+pub mod Verdicts
+pub mod WidthRuns
+pub mod Lists
+pub mod Tails
+pub mod Operands
+pub mod StmtRuns
+pub mod FunctionRuns
 pub mod Levels
 pub mod Stacks
 pub mod Leading

@@ -4,9 +4,9 @@ use Rattle.std.proofs.lemmas.List.{reverse-append, length-map}
 use Rattle.std.proofs.lemmas.Bool.{le-leb}
 use Rattle.std.proofs.lemmas.Bool.Decides.{leb_tells}
 use Rattle.idl_grammar.specs.Outcome as o
-use Rattle.idl_seen.specs.declared.views.Seen.{Seen}
-use Rattle.idl_seen.specs.Seen.{symbol, symbols}
-use Rattle.idl_machine.specs.Machine as m
+use Rattle.idl_token.specs.declared.views.Seen.{Seen}
+use Rattle.idl_token.specs.Seen.{symbol, symbols}
+use Rattle.idl_fault.specs.Machine as m
 use Rattle.idl_fault.specs.declared.parts.Frame.{Frame}
 use Rattle.idl_fault.specs.Views.{stack_of, frame_of}
 

@@ -1,11 +1,12 @@
--- How the code's items, plans, frames and states are seen by the machine's definition.
+-- Machinery: what the code's items, plans, frames and states are in the recogniser's definition.
 use Rattle.std.specs.Prelude.{ℕ, nat_eq, Bool, true, false, if◌then◌else◌, List, [], ◌∷◌, ◌++◌, map, reverse, Option, Some, None, Ok, Err}
+use Rattle.idl_token.specs.declared.kinds.Sign.{Sign}
 use Rattle.idl_token.specs.declared.kinds.Sign.TheVariants as s
-use Rattle.idl_grammar.specs.Symbol.{Symbol}
-use Rattle.idl_grammar.specs.Tables.{Infix, plain, wide, sw_read, sw_write}
-use Rattle.idl_seen.specs.declared.views.Seen.{Seen}
-use Rattle.idl_seen.specs.Seen.{symbols}
-use Rattle.idl_machine.specs.Machine as m
+use Rattle.idl_token.specs.Symbol.{Symbol}
+use Rattle.idl_grammar.specs.Tables.{sw_read, sw_write}
+use Rattle.idl_token.specs.declared.views.Seen.{Seen}
+use Rattle.idl_token.specs.Seen.{symbols}
+use Rattle.idl_fault.specs.Machine as m
 use Rattle.idl_fault.specs.declared.parts.Piece.{Piece}
 use Rattle.idl_fault.specs.declared.parts.Piece.TheVariants as piece
 use Rattle.idl_fault.specs.declared.parts.WidthPart.{WidthPart}
@@ -134,19 +135,19 @@ plan_of plan.Refuses = m.refuses
 plan_of (plan.Sets b) = m.sets b
 plan_of (plan.Both p) = m.both (first_of_pair p) (second_of_pair p)
 
--- how loosely a sign binds, and whether it is the left shift that widens
-abbrev pub is_wide : Infix → Bool
-is_wide (plain op) = false
-is_wide wide = true
+-- the left shift that widens, behind which an atom of a width stands
+abbrev pub is_wide : Sign → Bool
+is_wide s.WideLeft = true
+is_wide _ = false
 
-abbrev pub level : Option (ℕ × Infix) → Option (ℕ × Bool)
-level None = None
-level (Some (j, op)) = Some (j, is_wide op)
+-- what stands behind a sign of a level, and what may follow it
+abbrev pub right_of : ℕ → Bool → List m.Item
+right_of k wide = (if wide then m.watom false else m.tight k) ∷ m.more k ∷ []
 
--- what comes after an operand, by the level of the sign there
-abbrev pub infix_by : ℕ → Option (ℕ × Bool) → m.Plan
-infix_by k None = m.passes []
-infix_by k (Some (j, f)) = if nat_eq j k then m.takes ((if f then m.watom false else m.tight k) ∷ m.more k ∷ []) else m.passes []
+-- what comes after an operand, by the precedence of the sign there
+abbrev pub infix_by : ℕ → Option ℕ → Bool → m.Plan
+infix_by k None wide = m.passes []
+infix_by k (Some j) wide = if nat_eq j k then m.takes (right_of k wide) else m.passes []
 
 abbrev pub reading_of : Reading → m.Reading
 reading_of (reading.Came ts) = m.reached (symbols ts.now)
@@ -161,25 +162,37 @@ frame_of (frame.Compare q) = m.compare (reading_of q)
 unfoldable pub stack_of : List Frame → List m.Frame
 stack_of fs = map frame_of (reverse fs)
 
+-- with a frame on top, reading on or falling to a fault
+abbrev pub next_by : Bool → List m.Frame → Bool → List Symbol → m.Next
+next_by falls k may ts = if falls then m.fault k ts else m.next k may ts
+
 -- what a state stands for: the stack, the flag and the tokens, or where the fault there leads
 abbrev pub state_of : State → m.Next
 state_of x = if x.falls then m.fault (stack_of x.stack.items) (symbols x.rest.now) else m.goes (stack_of x.stack.items) x.may (symbols x.rest.now)
 
 -- where a state leads
 abbrev pub after_state : State → m.Next
-after_state x = if x.falls then m.fault (stack_of x.stack.items) (symbols x.rest.now) else m.next (stack_of x.stack.items) x.may (symbols x.rest.now)
+after_state x = next_by x.falls (stack_of x.stack.items) x.may (symbols x.rest.now)
 
 abbrev pub turn_of : Turn → m.Next
 turn_of (turn.Goes x) = state_of x
 turn_of (turn.Halts None) = m.halts (Ok tt)
 turn_of (turn.Halts (Some ts)) = m.halts (Err (symbols ts.now))
 
+-- the second of two readings, after what the first one gave
+abbrev pub second_try : Pair → m.Reading → List m.Frame → List Symbol → m.Next
+second_try p q k us = m.goes (m.frames (second_of_pair p) ++ m.compare q ∷ k) false us
+
 -- where a fault leads that comes to a frame, with the rest of the stack and the tokens from the fault on
 abbrev pub fall_of : Fall → List m.Frame → List Symbol → m.Next
 fall_of (fall.Falls ts) k us = m.fault k (symbols ts.now)
-fall_of (fall.Tries p start) k us = m.goes (m.frames (second_of_pair p) ++ m.compare (Err us) ∷ k) false (symbols start.now)
+fall_of (fall.Tries p start) k us = second_try p (Err us) k (symbols start.now)
 fall_of (fall.Came ts) k us = m.goes k false (symbols ts.now)
 
 abbrev pub verdict_by : Option (List Seen) → m.Verdict
 verdict_by None = Ok tt
 verdict_by (Some ts) = Err (symbols ts)
+
+-- the recogniser comes to this from one thing to be read
+abbrev pub ComesTo : Item → List Symbol → Option (List Seen) → Type 0
+ComesTo start ts end = m.Runs (m.frames (item start ∷ [])) false ts (verdict_by end)

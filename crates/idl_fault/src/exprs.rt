@@ -1,11 +1,11 @@
 //! What the parts of expressions do.
 
-ghost use Rattle.std.specs.Prelude.{◌≡◌, Bool, false, Some, [], ◌∷◌, if◌then◌else◌, option_map};
-ghost use Rattle.idl_grammar.specs.Symbol as t;
+ghost use Rattle.std.specs.Prelude.{◌≡◌, Bool, Some, option_map};
+ghost use Rattle.idl_token.specs.Symbol as t;
 ghost use Rattle.idl_grammar.specs.Tables.{binding};
-ghost use Rattle.idl_machine.specs.Machine as m;
-ghost use Rattle.idl_seen.specs.Seen.{symbol};
-ghost use Rattle.idl_fault.specs.Views.{plan_of, expr_item, level, infix_by};
+ghost use Rattle.idl_fault.specs.Machine as m;
+ghost use Rattle.idl_token.specs.Seen.{symbol};
+ghost use Rattle.idl_fault.specs.Views.{plan_of, expr_item, is_wide, right_of, infix_by};
 
 use crate::items::{ARGS, CLOSE_BRACKET, CLOSE_PAREN, COLON, DOT, EXPR, OPEN_PAREN, SOFT_READ};
 use crate::parts::ExprPart::{
@@ -15,9 +15,9 @@ use crate::parts::ExprPart::{
 use crate::parts::WidthPart::Atom;
 use crate::parts::{ExprPart, Item, Pair, Plan};
 use crate::primaries::primary;
-use idl_seen::Seen;
-use idl_token::Sign;
+use idl_token::{Seen, Sign, precedence};
 
+// operand = ( "!" | "~" | "-" ) operand | primary parts
 fn operand<'a>(head: Option<Seen<'a>>) -> Plan<'a>
     ensures { plan_of result ≡ m.operand_plan (option_map symbol head.entry) }
 {
@@ -29,6 +29,7 @@ fn operand<'a>(head: Option<Seen<'a>>) -> Plan<'a>
     }
 }
 
+// parts = { "[" inside }
 fn parts<'a>(head: Option<Seen<'a>>) -> Plan<'a>
     ensures { plan_of result ≡ m.parts_plan (option_map symbol head.entry) }
 {
@@ -40,7 +41,7 @@ fn parts<'a>(head: Option<Seen<'a>>) -> Plan<'a>
     }
 }
 
-// Up to a level that isn't the first.
+// Signs of all levels below this one, the tightest first: `onward(k) = onward(k - 1) more(k - 1)`.
 #[tactic(auto, using(crate::proofs::Levels::onward_more, crate::proofs::Levels::onward_none))]
 fn onward<'a>(level: u8) -> Plan<'a>
     ensures { plan_of result ≡ m.onward_plan level }
@@ -52,29 +53,16 @@ fn onward<'a>(level: u8) -> Plan<'a>
     }
 }
 
-// The level of a sign between two operands, and whether it is the left shift that widens.
-fn level_of(sign: Sign) -> Option<(u8, bool)>
-    ensures { option_map (λ x. (x.0, x.1)) result ≡ level (binding sign) }
+// Whether a sign is the left shift that widens, behind which an atom of a width stands.
+fn is_wide(sign: Sign) -> bool
+    ensures { result ≡ is_wide sign }
 {
-    match sign {
-        Sign::Times | Sign::WideTimes | Sign::Divide | Sign::Remainder => Some((0, false)),
-        Sign::Plus | Sign::Minus | Sign::WidePlus | Sign::WideMinus => Some((1, false)),
-        Sign::Left | Sign::Right | Sign::RightSigned => Some((2, false)),
-        Sign::WideLeft => Some((2, true)),
-        Sign::Less | Sign::AtMost | Sign::Greater | Sign::AtLeast => Some((3, false)),
-        Sign::Equal | Sign::NotEqual => Some((4, false)),
-        Sign::Ampersand => Some((5, false)),
-        Sign::Caret => Some((6, false)),
-        Sign::Bar => Some((7, false)),
-        Sign::And => Some((8, false)),
-        Sign::Or => Some((9, false)),
-        _ => None,
-    }
+    matches!(sign, Sign::WideLeft)
 }
 
 // After a sign of the level.
 fn right<'a>(level: u8, wide: bool) -> Plan<'a>
-    ensures { plan_of result ≡ m.takes ((if wide then m.watom false else m.tight level) ∷ m.more level ∷ []) }
+    ensures { plan_of result ≡ m.takes (right_of level wide) }
 {
     if wide {
         Plan::TakesTwo(Item::Width(Atom), Item::Expr(More(level)))
@@ -83,12 +71,12 @@ fn right<'a>(level: u8, wide: bool) -> Plan<'a>
     }
 }
 
-fn infix<'a>(level: u8, found: Option<(u8, bool)>) -> Plan<'a>
-    ensures { plan_of result ≡ infix_by level (option_map (λ x. (x.0, x.1)) found) }
+fn infix<'a>(level: u8, found: Option<u8>, wide: bool) -> Plan<'a>
+    ensures { plan_of result ≡ infix_by level found wide }
 {
     match found {
         None => Plan::Leaves(&[]),
-        Some((at, wide)) => {
+        Some(at) => {
             if at == level {
                 right(level, wide)
             } else {
@@ -102,9 +90,11 @@ fn infix<'a>(level: u8, found: Option<(u8, bool)>) -> Plan<'a>
 fn at_sign<'a>(level: u8, sign: Sign) -> Plan<'a>
     ensures { plan_of result ≡ m.infix_plan level (binding sign) }
 {
-    infix(level, level_of(sign))
+    infix(level, precedence(sign), is_wide(sign))
 }
 
+// more(level) = [ sign of the level, tight(level), more(level) ]; behind the left shift that widens
+// an atom of a width stands in place of tight(level).
 fn more<'a>(level: u8, head: Option<Seen<'a>>) -> Plan<'a>
     ensures { plan_of result ≡ m.more_plan level (option_map symbol head.entry) }
 {
@@ -114,6 +104,7 @@ fn more<'a>(level: u8, head: Option<Seen<'a>>) -> Plan<'a>
     }
 }
 
+// choice = [ "?" expression ":" expression ]
 fn choice<'a>(head: Option<Seen<'a>>) -> Plan<'a>
     ensures { plan_of result ≡ m.choice_plan (option_map symbol head.entry) }
 {
@@ -123,7 +114,8 @@ fn choice<'a>(head: Option<Seen<'a>>) -> Plan<'a>
     }
 }
 
-fn named<'a>(head: Option<Seen<'a>>) -> Plan<'a>
+// Behind a word: `[ "(" called ]`.
+fn call_of<'a>(head: Option<Seen<'a>>) -> Plan<'a>
     ensures { plan_of result ≡ m.named_plan (option_map symbol head.entry) }
 {
     match head {
@@ -132,7 +124,8 @@ fn named<'a>(head: Option<Seen<'a>>) -> Plan<'a>
     }
 }
 
-fn called<'a>(head: Option<Seen<'a>>) -> Plan<'a>
+// called = ")" | args ")"
+fn call_end<'a>(head: Option<Seen<'a>>) -> Plan<'a>
     ensures { plan_of result ≡ m.called_plan (option_map symbol head.entry) }
 {
     match head {
@@ -141,6 +134,7 @@ fn called<'a>(head: Option<Seen<'a>>) -> Plan<'a>
     }
 }
 
+// args = expression [ "," args ]
 fn more_args<'a>(head: Option<Seen<'a>>) -> Plan<'a>
     ensures { plan_of result ≡ m.more_args_plan (option_map symbol head.entry) }
 {
@@ -150,6 +144,8 @@ fn more_args<'a>(head: Option<Seen<'a>>) -> Plan<'a>
     }
 }
 
+// Behind `CSR[`: `word csr_word | expression "]" soft_read`, where
+// soft_read = "." "sw_read" "(" ")".
 fn csr<'a>(head: Option<Seen<'a>>) -> Plan<'a>
     ensures { plan_of result ≡ m.csr_plan (option_map symbol head.entry) }
 {
@@ -159,6 +155,7 @@ fn csr<'a>(head: Option<Seen<'a>>) -> Plan<'a>
     }
 }
 
+// Behind `CSR[` and a word: `"]" "." csr_field`, or the rest of an expression, `"]"` and soft_read.
 fn csr_word<'a>(head: Option<Seen<'a>>) -> Plan<'a>
     ensures { plan_of result ≡ m.csr_word_plan (option_map symbol head.entry) }
 {
@@ -175,6 +172,7 @@ fn csr_word<'a>(head: Option<Seen<'a>>) -> Plan<'a>
     }
 }
 
+// The word behind `CSR[word].`.
 fn field<'a>(word: &str) -> Plan<'a>
     ensures { plan_of result ≡ m.csr_field_plan (Some (t.word word.now)) }
 {
@@ -185,6 +183,7 @@ fn field<'a>(word: &str) -> Plan<'a>
     }
 }
 
+// Behind `CSR[word].`: a field, or `sw_read` with or without `"(" ")"`.
 fn csr_field<'a>(head: Option<Seen<'a>>) -> Plan<'a>
     ensures { plan_of result ≡ m.csr_field_plan (option_map symbol head.entry) }
 {
@@ -194,6 +193,7 @@ fn csr_field<'a>(head: Option<Seen<'a>>) -> Plan<'a>
     }
 }
 
+// Behind `CSR[word].sw_read`: `[ "(" ")" ]`.
 fn read_or_field<'a>(head: Option<Seen<'a>>) -> Plan<'a>
     ensures { plan_of result ≡ m.read_or_field_plan (option_map symbol head.entry) }
 {
@@ -205,7 +205,8 @@ fn read_or_field<'a>(head: Option<Seen<'a>>) -> Plan<'a>
 
 /// What a part of an expression does.
 pub fn plan_expr<'a>(part: ExprPart, head: Option<Seen<'a>>) -> Plan<'a>
-    ensures { (b : Bool) → plan_of result ≡ m.plan b (expr_item part) (option_map symbol head.entry) }
+    ensures { (b : Bool)
+        → plan_of result ≡ m.plan b (expr_item part) (option_map symbol head.entry) }
 {
     match part {
         ExprPart::Any => Plan::Leaves(&[Item::Expr(Operand), Item::Expr(Rest)]),
@@ -219,8 +220,8 @@ pub fn plan_expr<'a>(part: ExprPart, head: Option<Seen<'a>>) -> Plan<'a>
         More(level) => more(level, head),
         Choice => choice(head),
         Rest => Plan::Leaves(&[Item::Expr(Onward(10)), Item::Expr(Choice)]),
-        Named => named(head),
-        Called => called(head),
+        Named => call_of(head),
+        Called => call_end(head),
         Args => Plan::Leaves(&[EXPR, Item::Expr(MoreArgs)]),
         MoreArgs => more_args(head),
         Braced => Plan::Both(Pair::Braced),

@@ -1,8 +1,8 @@
 //! What the parts of functions do.
 
 ghost use Rattle.std.specs.Prelude.{◌≡◌, Bool, option_map};
-ghost use Rattle.idl_machine.specs.Machine as m;
-ghost use Rattle.idl_seen.specs.Seen.{symbol};
+ghost use Rattle.idl_fault.specs.Machine as m;
+ghost use Rattle.idl_token.specs.Seen.{symbol};
 ghost use Rattle.idl_fault.specs.Views.{plan_of, function_item};
 
 use crate::items::{BODY, CLOSE_BRACE, FUNCTION, OPEN_BRACE, SHAPE, STMTS, WORD};
@@ -10,9 +10,9 @@ use crate::parts::FunctionPart::{
     About, AboutText, Arguments, Function, Functions, MoreArguments, Taken,
 };
 use crate::parts::{FunctionPart, Item, Plan};
-use idl_seen::Seen;
-use idl_token::{Reserved, Sign};
+use idl_token::{Reserved, Seen, Sign};
 
+// functions = { function }
 fn functions<'a>(head: Option<Seen<'a>>) -> Plan<'a>
     ensures { plan_of result ≡ m.functions_plan (option_map symbol head.entry) }
 {
@@ -24,7 +24,8 @@ fn functions<'a>(head: Option<Seen<'a>>) -> Plan<'a>
     }
 }
 
-fn returned<'a>(head: Option<Seen<'a>>) -> Plan<'a>
+// result = [ "returns" type ]
+fn result_of<'a>(head: Option<Seen<'a>>) -> Plan<'a>
     ensures { plan_of result ≡ m.result_plan (option_map symbol head.entry) }
 {
     match head {
@@ -33,7 +34,8 @@ fn returned<'a>(head: Option<Seen<'a>>) -> Plan<'a>
     }
 }
 
-fn taken<'a>(head: Option<Seen<'a>>) -> Plan<'a>
+// taken = [ "arguments" arguments ]
+fn arguments_of<'a>(head: Option<Seen<'a>>) -> Plan<'a>
     ensures { plan_of result ≡ m.taken_plan (option_map symbol head.entry) }
 {
     match head {
@@ -42,6 +44,7 @@ fn taken<'a>(head: Option<Seen<'a>>) -> Plan<'a>
     }
 }
 
+// arguments = type word [ "," arguments ]
 fn more_arguments<'a>(head: Option<Seen<'a>>) -> Plan<'a>
     ensures { plan_of result ≡ m.more_arguments_plan (option_map symbol head.entry) }
 {
@@ -51,6 +54,7 @@ fn more_arguments<'a>(head: Option<Seen<'a>>) -> Plan<'a>
     }
 }
 
+// about = [ "description" "{" about_text ]
 fn about<'a>(head: Option<Seen<'a>>) -> Plan<'a>
     ensures { plan_of result ≡ m.about_plan (option_map symbol head.entry) }
 {
@@ -62,6 +66,7 @@ fn about<'a>(head: Option<Seen<'a>>) -> Plan<'a>
     }
 }
 
+// about_text = [ description ] "}"
 fn about_text<'a>(head: Option<Seen<'a>>) -> Plan<'a>
     ensures { plan_of result ≡ m.about_text_plan (option_map symbol head.entry) }
 {
@@ -73,7 +78,8 @@ fn about_text<'a>(head: Option<Seen<'a>>) -> Plan<'a>
 
 /// What a part of a function does.
 pub fn plan_function<'a>(part: FunctionPart, head: Option<Seen<'a>>) -> Plan<'a>
-    ensures { (b : Bool) → plan_of result ≡ m.plan b (function_item part) (option_map symbol head.entry) }
+    ensures { (b : Bool)
+        → plan_of result ≡ m.plan b (function_item part) (option_map symbol head.entry) }
 {
     match part {
         Functions => functions(head),
@@ -90,8 +96,8 @@ pub fn plan_function<'a>(part: FunctionPart, head: Option<Seen<'a>>) -> Plan<'a>
             CLOSE_BRACE,
             CLOSE_BRACE,
         ]),
-        FunctionPart::Result => returned(head),
-        Taken => taken(head),
+        FunctionPart::Result => result_of(head),
+        Taken => arguments_of(head),
         Arguments => Plan::Leaves(&[SHAPE, WORD, Item::Function(MoreArguments)]),
         MoreArguments => more_arguments(head),
         About => about(head),

@@ -1,7 +1,6 @@
 //! What is read, what a thing to be read does at a token, and the stack.
 
-use idl_seen::Seen;
-use idl_token::{Reserved, Sign};
+use idl_token::{Reserved, Seen, Sign};
 
 /// One token.
 #[derive(Clone, Copy, Drop)]
@@ -144,7 +143,7 @@ pub enum Frame<'a> {
     Compare(Reading<'a>),
 }
 
-/// A state of the machine. The top of the stack is the last of its frames.
+/// A state of the recogniser. The top of the stack is the last of its frames.
 #[derive(Drop)]
 pub struct State<'a> {
     pub stack: Vec<Frame<'a>>,
@@ -155,7 +154,7 @@ pub struct State<'a> {
     pub falls: bool,
 }
 
-/// A turn of the machine: on to another state, or the end with the tokens from the fault on, where
+/// A turn of the recogniser: on to another state, or the end with the tokens from the fault on, where
 /// there is one.
 #[derive(Drop)]
 pub enum Turn<'a> {

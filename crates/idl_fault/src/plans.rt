@@ -1,8 +1,8 @@
 //! What a thing to be read does.
 
 ghost use Rattle.std.specs.Prelude.{◌≡◌, option_map};
-ghost use Rattle.idl_machine.specs.Machine as m;
-ghost use Rattle.idl_seen.specs.Seen.{symbol};
+ghost use Rattle.idl_fault.specs.Machine as m;
+ghost use Rattle.idl_token.specs.Seen.{symbol};
 ghost use Rattle.idl_fault.specs.Views.{plan_of, item};
 
 use crate::exprs::plan_expr;
@@ -11,7 +11,7 @@ use crate::parts::{Item, Plan};
 use crate::pieces::{plan_piece, same};
 use crate::stmts::plan_stmt;
 use crate::widths::plan_width;
-use idl_seen::Seen;
+use idl_token::Seen;
 
 /// What a thing to be read does at the next token, where the flag says whether the width that was read
 /// last may be multiplied.

@@ -1,10 +1,10 @@
 //! What an operand without a sign does.
 
 ghost use Rattle.std.specs.Prelude.{◌≡◌, Some, option_map};
-ghost use Rattle.idl_grammar.specs.Symbol as t;
+ghost use Rattle.idl_token.specs.Symbol as t;
 ghost use Rattle.idl_grammar.specs.Tables.{sized_width};
-ghost use Rattle.idl_machine.specs.Machine as m;
-ghost use Rattle.idl_seen.specs.Seen.{symbol};
+ghost use Rattle.idl_fault.specs.Machine as m;
+ghost use Rattle.idl_token.specs.Seen.{symbol};
 ghost use Rattle.idl_token.specs.Numbers as numbers;
 ghost use Rattle.idl_fault.specs.Views.{plan_of};
 
@@ -14,19 +14,20 @@ use crate::items::{
 };
 use crate::parts::ExprPart::{Braced, Csr, Named, Rest, Tight};
 use crate::parts::{Item, Plan};
-use idl_seen::Seen;
-use idl_token::{Reserved, Sign, Special};
+use idl_token::{Reserved, Seen, Sign, Special, is_short};
 
+// A sized number whose width is a number: at most 65,535.
 fn sized<'a>(width: u128) -> Plan<'a>
     ensures { plan_of result ≡ m.sized_plan (sized_width (numbers.Number width)) }
 {
-    if width <= 65_535 {
+    if is_short(width) {
         Plan::Takes(&[])
     } else {
         Plan::Refuses
     }
 }
 
+// "(" operand rest ")" | "{" braced
 fn sign<'a>(found: Sign) -> Plan<'a>
     ensures { plan_of result ≡ m.primary_plan (Some (t.sign found)) }
 {
@@ -37,6 +38,9 @@ fn sign<'a>(found: Sign) -> Plan<'a>
     }
 }
 
+// "$signed" "(" expression ")" | "$resize" "<" width ">" "(" expression ")" | "$pc" | "$encoding"
+// | "implemented?" "(" "ExtensionName" "::" word ")"
+// | "implemented_version?" "(" "ExtensionName" "::" word "," text ")"
 fn special<'a>(found: Special) -> Plan<'a>
     ensures { plan_of result ≡ m.primary_plan (Some (t.special found)) }
 {
@@ -60,6 +64,9 @@ fn special<'a>(found: Special) -> Plan<'a>
     }
 }
 
+// "true" | "false" | "X" "[" expression "]" | "CSR" "[" csr
+// | "read_memory" "<" bits ">" "(" expression ")" | "csr_value" "." word
+// | "xlen" "(" ")" | "mode" "(" ")" | kind "::" word
 fn reserved<'a>(found: Reserved) -> Plan<'a>
     ensures { plan_of result ≡ m.primary_reserved found }
 {
@@ -79,7 +86,8 @@ fn reserved<'a>(found: Reserved) -> Plan<'a>
     }
 }
 
-/// What an operand without a sign does.
+/// What an operand without a sign does:
+/// primary = number | sized number | text | word [ "(" called ] | one of those above.
 pub fn primary<'a>(head: Option<Seen<'a>>) -> Plan<'a>
     ensures { plan_of result ≡ m.primary_plan (option_map symbol head.entry) }
 {

@@ -2,8 +2,8 @@
 
 ghost use Rattle.std.specs.Prelude.{◌≡◌, ◌++◌, ◌∷◌, List, IfOk};
 ghost use Rattle.idl_grammar.specs.Outcome as o;
-ghost use Rattle.idl_machine.specs.Machine as m;
-ghost use Rattle.idl_seen.specs.Seen.{symbols};
+ghost use Rattle.idl_fault.specs.Machine as m;
+ghost use Rattle.idl_token.specs.Seen.{symbols};
 ghost use Rattle.idl_fault.specs.Views.{items, first_of_pair, second_of_pair, reading_of, frame_of, stack_of, fall_of, after_counter};
 
 use crate::items::{
@@ -11,13 +11,14 @@ use crate::items::{
     OPEN_BRACE, SEMICOLON, STMTS, WIDTH,
 };
 use crate::parts::{Fall, Frame, Item, Pair, Reading};
-use idl_seen::Seen;
+use idl_token::Seen;
 use udb_base::NoMemory;
 
 /// The stack with one frame more.
 #[tactic(auto, using(crate::proofs::Stacks::stack_pushed))]
 pub fn push<'a>(stack: Vec<Frame<'a>>, top: Frame<'a>) -> Result<Vec<Frame<'a>>, NoMemory>
-    ensures { IfOk result (λ s. stack_of s.items ≡ frame_of top.entry ∷ stack_of stack.entry.items) }
+    ensures { IfOk result (λ s. stack_of s.items
+        ≡ frame_of top.entry ∷ stack_of stack.entry.items) }
 {
     let mut grown = stack;
     grown.push(top)?;
@@ -26,7 +27,8 @@ pub fn push<'a>(stack: Vec<Frame<'a>>, top: Frame<'a>) -> Result<Vec<Frame<'a>>,
 
 /// The stack with more to be read, the first of it on top.
 pub fn push_all<'a>(stack: Vec<Frame<'a>>, more: &[Item<'a>]) -> Result<Vec<Frame<'a>>, NoMemory>
-    ensures { IfOk result (λ s. stack_of s.items ≡ m.frames (items more.now) ++ stack_of stack.entry.items) }
+    ensures { IfOk result (λ s. stack_of s.items
+        ≡ m.frames (items more.now) ++ stack_of stack.entry.items) }
 {
     match more {
         [] => Ok(stack),
@@ -36,7 +38,8 @@ pub fn push_all<'a>(stack: Vec<Frame<'a>>, more: &[Item<'a>]) -> Result<Vec<Fram
 
 /// The stack with what is read after the counter of a loop.
 pub fn push_counter<'a>(stack: Vec<Frame<'a>>, word: &'a str) -> Result<Vec<Frame<'a>>, NoMemory>
-    ensures { IfOk result (λ s. stack_of s.items ≡ m.frames (after_counter word.now) ++ stack_of stack.entry.items) }
+    ensures { IfOk result (λ s. stack_of s.items
+        ≡ m.frames (after_counter word.now) ++ stack_of stack.entry.items) }
 {
     let body = push_all(
         stack,
@@ -100,9 +103,10 @@ pub fn farther<'a>(first: Reading<'a>, second: Reading<'a>) -> Reading<'a>
 }
 
 /// What a fault does at a frame.
-#[tactic(auto, unfolding(idl_machine::specs::Machine::fault))]
+#[tactic(auto, unfolding(crate::specs::Machine::fault))]
 pub fn fall_at<'a>(frame: Frame<'a>, rest: &'a [Seen<'a>]) -> Fall<'a>
-    ensures { (k : List m.Frame) → m.fault (frame_of frame.entry ∷ k) (symbols rest.now) ≡ fall_of result k (symbols rest.now) }
+    ensures { (k : List m.Frame) → m.fault (frame_of frame.entry ∷ k) (symbols rest.now)
+        ≡ fall_of result k (symbols rest.now) }
 {
     match frame {
         Frame::Reads(_) => Fall::Falls(rest),

@@ -2,9 +2,9 @@
 
 ghost use Rattle.std.specs.Prelude.{◌≡◌, Bool, Some, ◌∷◌, [], if◌then◌else◌, option_map};
 ghost use Rattle.idl_grammar.specs.StmtReader.{begins, begins_reserved};
-ghost use Rattle.idl_grammar.specs.Symbol as t;
-ghost use Rattle.idl_machine.specs.Machine as m;
-ghost use Rattle.idl_seen.specs.Seen.{symbol};
+ghost use Rattle.idl_token.specs.Symbol as t;
+ghost use Rattle.idl_fault.specs.Machine as m;
+ghost use Rattle.idl_token.specs.Seen.{symbol};
 ghost use Rattle.idl_fault.specs.Views.{plan_of, stmt_item};
 
 use crate::items::{
@@ -18,8 +18,7 @@ use crate::parts::StmtPart::{
     WriteOrSet,
 };
 use crate::parts::{Item, Plan, StmtPart};
-use idl_seen::Seen;
-use idl_token::{Reserved, Sign};
+use idl_token::{Reserved, Seen, Sign};
 
 fn begins_reserved(word: Reserved) -> bool
     ensures { result ≡ begins_reserved word }
@@ -44,6 +43,7 @@ fn begins(token: Seen<'_>) -> bool
     }
 }
 
+// A statement and more of them, or none.
 fn stmts_if<'a>(more: bool) -> Plan<'a>
     ensures { plan_of result ≡ m.stmts_by more }
 {
@@ -54,6 +54,7 @@ fn stmts_if<'a>(more: bool) -> Plan<'a>
     }
 }
 
+// statements = { statement }
 fn stmts<'a>(head: Option<Seen<'a>>) -> Plan<'a>
     ensures { plan_of result ≡ m.stmts_plan (option_map symbol head.entry) }
 {
@@ -63,8 +64,14 @@ fn stmts<'a>(head: Option<Seen<'a>>) -> Plan<'a>
     }
 }
 
-// Statements that write, or go elsewhere.
-fn writing<'a>(word: Reserved) -> Plan<'a>
+// Behind the word of the language that a statement begins with:
+// jump = "jump" "(" expression ")" ";"
+// raise = "raise" "(" expression "," "mode" "(" ")" "," expression ")" ";"
+// write = "write_memory" "<" bits ">" "(" expression "," expression ")" ";"
+// register = "X" "[" expression "]" "=" expression ";", and by address "CSR" "[" csr
+// return = "return" expression ";", if = "if" when, for = "for" "(" "U32" count
+// declaration = type word "=" expression ";"
+fn of_reserved<'a>(word: Reserved) -> Plan<'a>
     ensures { plan_of result ≡ m.stmt_reserved word }
 {
     match word {
@@ -101,18 +108,20 @@ fn writing<'a>(word: Reserved) -> Plan<'a>
     }
 }
 
+// statement = word worded | "{" statements "}" | one that begins with a word of the language
 fn stmt<'a>(head: Option<Seen<'a>>) -> Plan<'a>
     ensures { plan_of result ≡ m.stmt_plan (option_map symbol head.entry) }
 {
     match head {
         Some(Seen::Word(_)) => Plan::Takes(&[Item::Stmt(Worded)]),
         Some(Seen::Sign(Sign::OpenBrace)) => Plan::Takes(&[STMTS, CLOSE_BRACE]),
-        Some(Seen::Reserved(word)) => writing(word),
+        Some(Seen::Reserved(word)) => of_reserved(word),
         _ => Plan::Leaves(&[SHAPE, WORD, ASSIGN, EXPR, SEMICOLON]),
     }
 }
 
-fn worded<'a>(head: Option<Seen<'a>>) -> Plan<'a>
+// Behind a word: `"(" call`, `"=" expression ";"` or `"[" inside "=" expression ";"`.
+fn after_word<'a>(head: Option<Seen<'a>>) -> Plan<'a>
     ensures { plan_of result ≡ m.worded_plan (option_map symbol head.entry) }
 {
     match head {
@@ -125,6 +134,7 @@ fn worded<'a>(head: Option<Seen<'a>>) -> Plan<'a>
     }
 }
 
+// Behind `word(`: `")" ";" | args ")" ";"`.
 fn call<'a>(head: Option<Seen<'a>>) -> Plan<'a>
     ensures { plan_of result ≡ m.call_stmt_plan (option_map symbol head.entry) }
 {
@@ -134,6 +144,8 @@ fn call<'a>(head: Option<Seen<'a>>) -> Plan<'a>
     }
 }
 
+// Behind `CSR[`: `word csr_word | expression "]" soft_write`, where
+// soft_write = "." "sw_write" "(" expression ")" ";".
 fn csr<'a>(head: Option<Seen<'a>>) -> Plan<'a>
     ensures { plan_of result ≡ m.csr_stmt_plan (option_map symbol head.entry) }
 {
@@ -152,6 +164,7 @@ fn csr<'a>(head: Option<Seen<'a>>) -> Plan<'a>
     }
 }
 
+// Behind `CSR[` and a word: `"]" "." target`, or the rest of an expression, `"]"` and soft_write.
 fn csr_word<'a>(head: Option<Seen<'a>>) -> Plan<'a>
     ensures { plan_of result ≡ m.csr_stmt_word_plan (option_map symbol head.entry) }
 {
@@ -170,6 +183,7 @@ fn csr_word<'a>(head: Option<Seen<'a>>) -> Plan<'a>
     }
 }
 
+// The word behind `CSR[word].`.
 fn target<'a>(word: &str) -> Plan<'a>
     ensures { plan_of result ≡ m.csr_target_plan (Some (t.word word.now)) }
 {
@@ -180,6 +194,7 @@ fn target<'a>(word: &str) -> Plan<'a>
     }
 }
 
+// Behind `CSR[word].`: `sw_write` as below, or a field with `"=" expression ";"`.
 fn csr_target<'a>(head: Option<Seen<'a>>) -> Plan<'a>
     ensures { plan_of result ≡ m.csr_target_plan (option_map symbol head.entry) }
 {
@@ -189,6 +204,7 @@ fn csr_target<'a>(head: Option<Seen<'a>>) -> Plan<'a>
     }
 }
 
+// Behind `CSR[word].sw_write`: `"(" expression ")" ";" | "=" expression ";"`.
 fn write_or_set<'a>(head: Option<Seen<'a>>) -> Plan<'a>
     ensures { plan_of result ≡ m.write_or_set_plan (option_map symbol head.entry) }
 {
@@ -198,6 +214,7 @@ fn write_or_set<'a>(head: Option<Seen<'a>>) -> Plan<'a>
     }
 }
 
+// otherwise = [ "else" else_block ]
 fn otherwise<'a>(head: Option<Seen<'a>>) -> Plan<'a>
     ensures { plan_of result ≡ m.otherwise_plan (option_map symbol head.entry) }
 {
@@ -207,6 +224,7 @@ fn otherwise<'a>(head: Option<Seen<'a>>) -> Plan<'a>
     }
 }
 
+// else_block = "{" statements "}" | "if" when
 fn else_block<'a>(head: Option<Seen<'a>>) -> Plan<'a>
     ensures { plan_of result ≡ m.else_block_plan (option_map symbol head.entry) }
 {
@@ -217,6 +235,7 @@ fn else_block<'a>(head: Option<Seen<'a>>) -> Plan<'a>
     }
 }
 
+// count = word "=" width ";" word "<" width ";" word "++" ")" "{" statements "}", one word.
 fn count<'a>(head: Option<Seen<'a>>) -> Plan<'a>
     ensures { plan_of result ≡ m.count_plan (option_map symbol head.entry) }
 {
@@ -226,6 +245,7 @@ fn count<'a>(head: Option<Seen<'a>>) -> Plan<'a>
     }
 }
 
+// type = [ "signed" ] "Bits" "<" width ">" | a word for a type alone
 fn shape<'a>(head: Option<Seen<'a>>) -> Plan<'a>
     ensures { plan_of result ≡ m.shape_plan (option_map symbol head.entry) }
 {
@@ -249,12 +269,13 @@ fn shape<'a>(head: Option<Seen<'a>>) -> Plan<'a>
 
 /// What a part of a statement does.
 pub fn plan_stmt<'a>(part: StmtPart, head: Option<Seen<'a>>) -> Plan<'a>
-    ensures { (b : Bool) → plan_of result ≡ m.plan b (stmt_item part) (option_map symbol head.entry) }
+    ensures { (b : Bool)
+        → plan_of result ≡ m.plan b (stmt_item part) (option_map symbol head.entry) }
 {
     match part {
         Stmts => stmts(head),
         Stmt => stmt(head),
-        Worded => worded(head),
+        Worded => after_word(head),
         Call => call(head),
         Csr => csr(head),
         CsrWord => csr_word(head),

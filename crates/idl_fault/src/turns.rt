@@ -1,15 +1,15 @@
-//! The turns of the machine.
+//! The recogniser's turns.
 
-ghost use Rattle.std.specs.Prelude.{◌≡◌, ◌++◌, ◌∷◌, [], false, if◌then◌else◌, IfOk, MatchOption, option_map};
+ghost use Rattle.std.specs.Prelude.{◌≡◌, ◌∷◌, [], false, IfOk, MatchOption, option_map};
 ghost use Rattle.idl_grammar.specs.Outcome as o;
-ghost use Rattle.idl_machine.specs.Machine as m;
-ghost use Rattle.idl_seen.specs.Seen.{symbol, symbols};
-ghost use Rattle.idl_fault.specs.Views.{item, plan_of, second_of_pair, reading_of, frame_of, stack_of, turn_of, after_state, verdict_by};
+ghost use Rattle.idl_fault.specs.Machine as m;
+ghost use Rattle.idl_token.specs.Seen.{symbol, symbols};
+ghost use Rattle.idl_fault.specs.Views.{plan_of, second_try, reading_of, frame_of, stack_of, turn_of, next_by, after_state, ComesTo};
 
 use crate::parts::{Fall, Frame, Item, Pair, Plan, Reading, State, Turn};
 use crate::plans::plan_item;
 use crate::stack::{fall_at, farther, first_reading, push, push_all, push_counter, second_reading};
-use idl_seen::Seen;
+use idl_token::Seen;
 use std::alloc::{AllocError, Global};
 use udb_base::NoMemory;
 
@@ -61,7 +61,8 @@ fn tries<'a>(
     start: &'a [Seen<'a>],
     first: Reading<'a>,
 ) -> Result<Turn<'a>, NoMemory>
-    ensures { IfOk result (λ x. turn_of x ≡ m.goes (m.frames (second_of_pair pair) ++ m.compare (reading_of first.entry) ∷ stack_of stack.entry.items) false (symbols start.now)) }
+    ensures { IfOk result (λ x. turn_of x
+        ≡ second_try pair (reading_of first.entry) (stack_of stack.entry.items) (symbols start.now)) }
 {
     let under = push(stack, Frame::Compare(first))?;
     let grown = push_all(under, second_reading(pair))?;
@@ -75,7 +76,8 @@ fn both<'a>(
     pair: Pair,
     rest: &'a [Seen<'a>],
 ) -> Result<Turn<'a>, NoMemory>
-    ensures { IfOk result (λ x. turn_of x ≡ m.acted (plan_of (Plan.Both pair)) (stack_of stack.entry.items) may (symbols rest.now)) }
+    ensures { IfOk result (λ x. turn_of x
+        ≡ m.act (plan_of (Plan.Both pair)) (stack_of stack.entry.items) may (symbols rest.now)) }
 {
     let under = push(stack, Frame::Second { pair, start: rest })?;
     let grown = push_all(under, first_reading(pair))?;
@@ -88,7 +90,8 @@ fn follow<'a>(
     may: bool,
     rest: &'a [Seen<'a>],
 ) -> Result<Turn<'a>, NoMemory>
-    ensures { IfOk result (λ x. turn_of x ≡ m.acted (plan_of plan.entry) (stack_of stack.entry.items) may (symbols rest.now)) }
+    ensures { IfOk result (λ x. turn_of x
+        ≡ m.act (plan_of plan.entry) (stack_of stack.entry.items) may (symbols rest.now)) }
 {
     match plan {
         Plan::Takes(more) => Ok(goes(push_all(stack, more)?, may, after(rest))),
@@ -103,8 +106,8 @@ fn follow<'a>(
 }
 
 // What the farther of two readings leads to.
-fn settled<'a>(reading: Reading<'a>, stack: Vec<Frame<'a>>) -> Turn<'a>
-    ensures { turn_of result ≡ m.settled (reading_of reading.entry) (stack_of stack.entry.items) }
+fn settle<'a>(reading: Reading<'a>, stack: Vec<Frame<'a>>) -> Turn<'a>
+    ensures { turn_of result ≡ m.settle (reading_of reading.entry) (stack_of stack.entry.items) }
 {
     match reading {
         Reading::Came(rest) => goes(stack, false, rest),
@@ -118,17 +121,18 @@ fn at_frame<'a>(
     may: bool,
     rest: &'a [Seen<'a>],
 ) -> Result<Turn<'a>, NoMemory>
-    ensures { IfOk result (λ x. turn_of x ≡ m.next (frame_of frame.entry ∷ stack_of stack.entry.items) may (symbols rest.now)) }
+    ensures { IfOk result (λ x. turn_of x
+        ≡ m.next (frame_of frame.entry ∷ stack_of stack.entry.items) may (symbols rest.now)) }
 {
     match frame {
         Frame::Reads(wanted) => follow(plan_item(may, wanted, head(rest)), stack, may, rest),
         Frame::Second { pair, start } => tries(stack, pair, start, Reading::Came(rest)),
-        Frame::Compare(first) => Ok(settled(farther(first, Reading::Came(rest)), stack)),
+        Frame::Compare(first) => Ok(settle(farther(first, Reading::Came(rest)), stack)),
     }
 }
 
 // With nothing more to be read.
-fn ended<'a>(rest: &'a [Seen<'a>]) -> Turn<'a>
+fn finish<'a>(rest: &'a [Seen<'a>]) -> Turn<'a>
     ensures { turn_of result ≡ m.next [] false (symbols rest.now) }
 {
     if rest.is_empty() {
@@ -138,12 +142,14 @@ fn ended<'a>(rest: &'a [Seen<'a>]) -> Turn<'a>
     }
 }
 
-fn fallen<'a>(
+// A fault that comes to a frame.
+fn fall_to<'a>(
     frame: Frame<'a>,
     stack: Vec<Frame<'a>>,
     rest: &'a [Seen<'a>],
 ) -> Result<Turn<'a>, NoMemory>
-    ensures { IfOk result (λ x. turn_of x ≡ m.fault (frame_of frame.entry ∷ stack_of stack.entry.items) (symbols rest.now)) }
+    ensures { IfOk result (λ x. turn_of x
+        ≡ m.fault (frame_of frame.entry ∷ stack_of stack.entry.items) (symbols rest.now)) }
 {
     match fall_at(frame, rest) {
         Fall::Falls(left) => Ok(falls(stack, left)),
@@ -154,8 +160,9 @@ fn fallen<'a>(
 
 // The frame on top, and the stack under it.
 #[tactic(auto, using(crate::proofs::Stacks::stack_pushed, crate::proofs::Stacks::stack_empty))]
-fn popped<'a>(stack: Vec<Frame<'a>>) -> Option<(Frame<'a>, Vec<Frame<'a>>)>
-    ensures { MatchOption result (stack_of stack.entry.items ≡ []) (λ x. stack_of stack.entry.items ≡ frame_of x.0 ∷ stack_of x.1.items) }
+fn pop<'a>(stack: Vec<Frame<'a>>) -> Option<(Frame<'a>, Vec<Frame<'a>>)>
+    ensures { MatchOption result (stack_of stack.entry.items ≡ [])
+        (λ x. stack_of stack.entry.items ≡ frame_of x.0 ∷ stack_of x.1.items) }
 {
     let mut under = stack;
     match under.pop() {
@@ -164,14 +171,15 @@ fn popped<'a>(stack: Vec<Frame<'a>>) -> Option<(Frame<'a>, Vec<Frame<'a>>)>
     }
 }
 
-#[tactic(auto, unfolding(idl_machine::specs::Machine::fault))]
-fn emptied<'a>(fault: bool, rest: &'a [Seen<'a>]) -> Turn<'a>
-    ensures { turn_of result ≡ (if fault then m.fault [] (symbols rest.now) else m.next [] false (symbols rest.now)) }
+#[tactic(auto, unfolding(crate::specs::Machine::fault))]
+// With an empty stack.
+fn at_bottom<'a>(fault: bool, rest: &'a [Seen<'a>]) -> Turn<'a>
+    ensures { turn_of result ≡ next_by fault [] false (symbols rest.now) }
 {
     if fault {
         Turn::Halts(Some(rest))
     } else {
-        ended(rest)
+        finish(rest)
     }
 }
 
@@ -182,10 +190,11 @@ fn at_top<'a>(
     may: bool,
     rest: &'a [Seen<'a>],
 ) -> Result<Turn<'a>, NoMemory>
-    ensures { IfOk result (λ x. turn_of x ≡ (if fault then m.fault (frame_of frame.entry ∷ stack_of stack.entry.items) (symbols rest.now) else m.next (frame_of frame.entry ∷ stack_of stack.entry.items) may (symbols rest.now))) }
+    ensures { IfOk result (λ x. turn_of x
+        ≡ next_by fault (frame_of frame.entry ∷ stack_of stack.entry.items) may (symbols rest.now)) }
 {
     if fault {
-        fallen(frame, stack, rest)
+        fall_to(frame, stack, rest)
     } else {
         at_frame(frame, stack, may, rest)
     }
@@ -200,13 +209,13 @@ fn turn<'a>(state: State<'a>) -> Result<Turn<'a>, NoMemory>
         rest,
         falls,
     } = state;
-    match popped(stack) {
-        None => Ok(emptied(falls, rest)),
+    match pop(stack) {
+        None => Ok(at_bottom(falls, rest)),
         Some((frame, under)) => at_top(falls, frame, under, may, rest),
     }
 }
 
-/// What the machine comes to from the start: the tokens from the fault on, or none where all of them
+/// What the recogniser comes to from the start: the tokens from the fault on, or none where all of them
 /// were read. Each turn is constant work, and a frame falls to a fault but once. After 2^64 - 1 turns,
 /// which no run reaches, it would give up as for want of memory.
 pub fn run<'a>(
@@ -214,7 +223,8 @@ pub fn run<'a>(
     start: Item<'a>,
     tokens: &'a [Seen<'a>],
 ) -> Result<Option<&'a [Seen<'a>]>, NoMemory>
-    ensures { IfOk result (λ end. m.Runs (m.frames (item start.entry ∷ [])) false (symbols tokens.now) (verdict_by (option_map (λ t. t.now) end))) }
+    ensures { IfOk result
+        (λ end. ComesTo start.entry (symbols tokens.now) (option_map (λ t. t.now) end)) }
 {
     let stack = push(Vec::new(alloc), Frame::Reads(start))?;
     let mut state = State {

@@ -3,10 +3,10 @@
 ghost use Rattle.std.specs.Prelude.{◌≡◌, Some, [], ◌∷◌, if◌then◌else◌, option_map};
 ghost use Rattle.idl_token.specs.declared.kinds.Reserved.TheVariants as r;
 ghost use Rattle.idl_token.specs.declared.kinds.Sign.TheVariants as s;
-ghost use Rattle.idl_grammar.specs.Symbol as t;
-ghost use Rattle.idl_grammar.specs.Tables.{is_short};
-ghost use Rattle.idl_machine.specs.Machine as m;
-ghost use Rattle.idl_seen.specs.Seen.{symbol};
+ghost use Rattle.idl_token.specs.Symbol as t;
+ghost use Rattle.idl_token.specs.Numbers.{is_short};
+ghost use Rattle.idl_fault.specs.Machine as m;
+ghost use Rattle.idl_token.specs.Seen.{symbol};
 ghost use Rattle.idl_fault.specs.Views.{plan_of, width_item};
 
 use crate::items::{CLOSE_BRACKET, CLOSE_PAREN, COMMA, DOT, OPEN_BRACKET, OPEN_PAREN, WIDTH, WORD};
@@ -14,20 +14,19 @@ use crate::parts::WidthPart::{
     AfterNumber, Atom, Factor, May, Multiplied, OfBits, Product, Short, Sums, Term,
 };
 use crate::parts::{Item, Plan, WidthPart};
-use idl_seen::Seen;
-use idl_token::{Reserved, Sign, Special};
+use idl_token::{Reserved, Seen, Sign, Special, is_short};
 
 fn if_short<'a>(number: u128, plan: Plan<'a>) -> Plan<'a>
     ensures { plan_of result ≡ (if is_short number then plan_of plan.entry else m.refuses) }
 {
-    if number <= 65_535 {
+    if is_short(number) {
         plan
     } else {
         Plan::Refuses
     }
 }
 
-// After a parenthesis in a factor or in an atom.
+// After the parenthesis of an atom, `term sums ")"`, or of a factor, `product ")"`.
 fn in_parens<'a>(factor: bool) -> Plan<'a>
     ensures { plan_of result ≡ m.watom_plan factor (Some (t.sign s.OpenParen)) }
 {
@@ -38,6 +37,7 @@ fn in_parens<'a>(factor: bool) -> Plan<'a>
     }
 }
 
+// After `max` in an atom: `"(" width "," width ")"`. A factor is none.
 fn greatest<'a>(factor: bool) -> Plan<'a>
     ensures { plan_of result ≡ m.watom_plan factor (Some (t.reserved r.Max)) }
 {
@@ -55,6 +55,8 @@ fn greatest<'a>(factor: bool) -> Plan<'a>
     }
 }
 
+// atom = number | word | "$bits" "(" of_bits | "(" term sums ")" | "max" "(" width "," width ")"
+// factor = number | word | "$bits" "(" of_bits | "(" product ")"
 fn atom<'a>(factor: bool, head: Option<Seen<'a>>) -> Plan<'a>
     ensures { plan_of result ≡ m.watom_plan factor (option_map symbol head.entry) }
 {
@@ -68,6 +70,7 @@ fn atom<'a>(factor: bool, head: Option<Seen<'a>>) -> Plan<'a>
     }
 }
 
+// of_bits = word ")" | "CSR" "[" word "]" "." word ")"
 fn of_bits<'a>(head: Option<Seen<'a>>) -> Plan<'a>
     ensures { plan_of result ≡ m.of_bits_plan (option_map symbol head.entry) }
 {
@@ -86,6 +89,7 @@ fn of_bits<'a>(head: Option<Seen<'a>>) -> Plan<'a>
     }
 }
 
+// A term that begins with no number: `atom multiplied`, in a product `factor multiplied`.
 fn multiple<'a>(product: bool) -> Plan<'a>
     ensures { plan_of result ≡ m.passes (m.watom product ∷ m.multiplied ∷ []) }
 {
@@ -96,6 +100,8 @@ fn multiple<'a>(product: bool) -> Plan<'a>
     }
 }
 
+// term = number after_number | atom multiplied
+// product = number after_number | factor multiplied
 fn term<'a>(product: bool, head: Option<Seen<'a>>) -> Plan<'a>
     ensures { plan_of result ≡ m.term_plan product (option_map symbol head.entry) }
 {
@@ -105,6 +111,7 @@ fn term<'a>(product: bool, head: Option<Seen<'a>>) -> Plan<'a>
     }
 }
 
+// after_number = [ "*" factor ]
 fn after_number<'a>(head: Option<Seen<'a>>) -> Plan<'a>
     ensures { plan_of result ≡ m.after_number_plan (option_map symbol head.entry) }
 {
@@ -127,7 +134,8 @@ fn times<'a>(may: bool) -> Plan<'a>
     }
 }
 
-fn multiplied<'a>(may: bool, head: Option<Seen<'a>>) -> Plan<'a>
+// multiplied = [ "*" number ], where what stands before may be multiplied.
+fn multiple_end<'a>(may: bool, head: Option<Seen<'a>>) -> Plan<'a>
     ensures { plan_of result ≡ m.multiplied_plan may (option_map symbol head.entry) }
 {
     match head {
@@ -136,6 +144,7 @@ fn multiplied<'a>(may: bool, head: Option<Seen<'a>>) -> Plan<'a>
     }
 }
 
+// A number of at most 65,535.
 fn short<'a>(head: Option<Seen<'a>>) -> Plan<'a>
     ensures { plan_of result ≡ m.short_plan (option_map symbol head.entry) }
 {
@@ -145,6 +154,7 @@ fn short<'a>(head: Option<Seen<'a>>) -> Plan<'a>
     }
 }
 
+// sums = { ( "+" | "-" ) term }
 fn sums<'a>(head: Option<Seen<'a>>) -> Plan<'a>
     ensures { plan_of result ≡ m.sums_plan (option_map symbol head.entry) }
 {
@@ -168,7 +178,7 @@ pub fn plan_width<'a>(may: bool, part: WidthPart, head: Option<Seen<'a>>) -> Pla
         Term => term(false, head),
         Product => term(true, head),
         AfterNumber => after_number(head),
-        Multiplied => multiplied(may, head),
+        Multiplied => multiple_end(may, head),
         Short => short(head),
         Sums => sums(head),
         WidthPart::Whole => Plan::Leaves(&[Item::Width(Term), Item::Width(Sums)]),

@@ -5,8 +5,8 @@ use Rattle.idl_token.specs.declared.kinds.Sign.TheVariants as s
 use Rattle.idl_tree.specs.declared.widths.Shape.{Shape}
 use Rattle.idl_tree.specs.declared.programs.Argument.{Argument}
 use Rattle.idl_tree.specs.declared.programs.Function.{Function}
-use Rattle.idl_grammar.specs.Symbol.{Symbol}
-use Rattle.idl_grammar.specs.Symbol as t
+use Rattle.idl_token.specs.Symbol.{Symbol}
+use Rattle.idl_token.specs.Symbol as t
 use Rattle.idl_grammar.specs.StmtGrammar as g
 use Rattle.idl_grammar.specs.StmtGrammar.{ReadsResult, ReadsArgument, ReadsArguments, ReadsTaken, ReadsAbout, ReadsFunction, ReadsFunctions}
 use Rattle.idl_grammar.specs.Outcome as o

@@ -1,7 +1,7 @@
 -- With a higher limit bodies and functions are read the same, or were refused at a token.
 use Rattle.std.proofs.Common.{◌≡◌, ℕ, zero, suc, ◌-◌, ◌<◌, ◌≤◌, true, List, [], ◌∷◌, length, Some, None, refl, arith}
 use Rattle.idl_token.specs.declared.kinds.Reserved.TheVariants as r
-use Rattle.idl_grammar.specs.Symbol.{Symbol}
+use Rattle.idl_token.specs.Symbol.{Symbol}
 use Rattle.idl_grammar.specs.Outcome as o
 use Rattle.idl_grammar.specs.Outcome.{Outcome, Reader, ◌>>=◌}
 use Rattle.idl_grammar.specs.StmtReader as sr

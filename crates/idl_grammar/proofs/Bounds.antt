@@ -2,7 +2,7 @@
 use Rattle.std.proofs.Common.{ℕ, ◌+◌, ◌<◌, ◌≤◌, Bool, List, length, arith}
 use Rattle.idl_tree.specs.declared.widths.Width.{Width}
 use Rattle.idl_tree.specs.declared.expressions.Expr.{Expr}
-use Rattle.idl_grammar.specs.Symbol.{Symbol}
+use Rattle.idl_token.specs.Symbol.{Symbol}
 use Rattle.idl_grammar.specs.WidthGrammar as w
 use Rattle.idl_grammar.specs.WidthGrammar.{ReadsWatom, ReadsTerm, ReadsSum, ReadsWidth}
 use Rattle.idl_grammar.specs.ExprGrammar as g

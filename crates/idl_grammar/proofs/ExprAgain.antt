@@ -11,8 +11,8 @@ use Rattle.idl_tree.specs.declared.widths.EnumKind.{EnumKind}
 use Rattle.idl_tree.specs.declared.expressions.Unary.{Unary}
 use Rattle.idl_tree.specs.declared.expressions.Expr.{Expr}
 use Rattle.idl_tree.specs.declared.expressions.Expr.TheVariants as e
-use Rattle.idl_grammar.specs.Symbol.{Symbol}
-use Rattle.idl_grammar.specs.Symbol as t
+use Rattle.idl_token.specs.Symbol.{Symbol}
+use Rattle.idl_token.specs.Symbol as t
 use Rattle.idl_grammar.specs.Tables.{plain, wide, loosest, unary_of, enum_of, sw_read}
 use Rattle.idl_grammar.specs.WidthGrammar.{ReadsWidth}
 use Rattle.idl_grammar.specs.ExprGrammar as g

@@ -10,8 +10,8 @@ use Rattle.idl_token.specs.declared.kinds.Sign.{Sign}
 use Rattle.idl_token.specs.declared.kinds.Sign.TheVariants as s
 use Rattle.idl_tree.specs.declared.expressions.Unary.{Unary}
 use Rattle.idl_tree.specs.declared.expressions.Expr.TheVariants as e
-use Rattle.idl_grammar.specs.Symbol.{Symbol}
-use Rattle.idl_grammar.specs.Symbol as t
+use Rattle.idl_token.specs.Symbol.{Symbol}
+use Rattle.idl_token.specs.Symbol as t
 use Rattle.idl_grammar.specs.Tables.{Infix, plain, wide, binding, loosest, unary_of, sw_read}
 use Rattle.idl_grammar.specs.ExprGrammar as g
 use Rattle.idl_grammar.specs.ExprGrammar.{Inside, part_of}

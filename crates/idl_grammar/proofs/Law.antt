@@ -9,8 +9,8 @@ use Rattle.idl_token.specs.contracts.kinds.Sign as sign_type
 use Rattle.idl_token.specs.contracts.kinds.Reserved as reserved_type
 use Rattle.idl_token.specs.declared.kinds.Reserved.{Reserved}
 use Rattle.idl_token.specs.declared.kinds.Sign.{Sign}
-use Rattle.idl_grammar.specs.Symbol.{Symbol}
-use Rattle.idl_grammar.specs.Symbol as t
+use Rattle.idl_token.specs.Symbol.{Symbol}
+use Rattle.idl_token.specs.Symbol as t
 use Rattle.idl_grammar.specs.Outcome as r
 use Rattle.idl_grammar.specs.Outcome.{Outcome, Reader, Move, take, stop, pass, left_of, ◌>>=◌}
 

@@ -12,8 +12,8 @@ use Rattle.idl_tree.specs.declared.widths.Width.{Width}
 use Rattle.idl_tree.specs.declared.widths.EnumKind.{EnumKind}
 use Rattle.idl_tree.specs.declared.expressions.Unary.{Unary}
 use Rattle.idl_tree.specs.declared.expressions.Expr.TheVariants as e
-use Rattle.idl_grammar.specs.Symbol.{Symbol}
-use Rattle.idl_grammar.specs.Symbol as t
+use Rattle.idl_token.specs.Symbol.{Symbol}
+use Rattle.idl_token.specs.Symbol as t
 use Rattle.idl_grammar.specs.Tables.{Infix, plain, wide, binding, loosest, unary_of, enum_of, sized_width, mxlen, sw_read}
 use Rattle.idl_grammar.specs.ExprGrammar as g
 use Rattle.idl_grammar.specs.ExprGrammar.{Inside, part_of, ReadsPost, ReadsLevel, ReadsBinary, ReadsChoice, ReadsExpr}

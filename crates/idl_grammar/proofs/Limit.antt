@@ -6,7 +6,7 @@ use Rattle.std.proofs.lemmas.Bool.{le-leb}
 use Rattle.std.proofs.lemmas.Bool.Decides.{leb_tells}
 use Rattle.std.proofs.lemmas.List.{nil_from_length}
 use Rattle.idl_token.specs.declared.kinds.Sign.TheVariants as s
-use Rattle.idl_grammar.specs.Symbol.{Symbol}
+use Rattle.idl_token.specs.Symbol.{Symbol}
 use Rattle.idl_grammar.specs.Outcome as o
 use Rattle.idl_grammar.specs.Outcome.{Outcome, Reader, Move, take, stop, pass, left_of}
 use Rattle.idl_grammar.proofs.Law.{Reads, Law, Broke, Tells, tells_left}

@@ -4,8 +4,8 @@ use Rattle.std.specs.Prelude.{max, nat_le}
 use Rattle.std.proofs.lemmas.Bool.{leb-true, le-leb}
 use Rattle.std.proofs.lemmas.Bool.Decides.{leb_tells}
 use Rattle.idl_token.specs.declared.kinds.Sign.TheVariants as s
-use Rattle.idl_grammar.specs.Symbol.{Symbol}
-use Rattle.idl_grammar.specs.Symbol as t
+use Rattle.idl_token.specs.Symbol.{Symbol}
+use Rattle.idl_token.specs.Symbol as t
 use Rattle.idl_grammar.specs.Outcome as o
 use Rattle.idl_grammar.specs.Outcome.{Outcome, Reader, left_of, ◌>>=◌}
 use Rattle.idl_grammar.proofs.Law.{Reads, Law, Tells, Alike, both_read, both_refused, beyond, law_sample, law_pure, law_refuse, law_bind, law_if_next, law_look}

@@ -8,8 +8,8 @@ use Rattle.idl_tree.specs.declared.expressions.Binary.TheVariants as b
 use Rattle.idl_tree.specs.declared.expressions.Expr.TheVariants as e
 use Rattle.idl_tree.specs.declared.statements.Target.TheVariants as target
 use Rattle.idl_tree.specs.declared.statements.Stmt.TheVariants as st
-use Rattle.idl_grammar.specs.Symbol.{Symbol}
-use Rattle.idl_grammar.specs.Symbol as t
+use Rattle.idl_token.specs.Symbol.{Symbol}
+use Rattle.idl_token.specs.Symbol as t
 use Rattle.idl_grammar.specs.Outcome as o
 use Rattle.idl_grammar.specs.WidthReader as wr
 use Rattle.idl_grammar.specs.ExprReader as er

@@ -1,7 +1,7 @@
 -- What stands first behind an expression or a width, seen from its front alone: brackets are counted,
 -- and so are the signs of ternary forms outside of them. So no text has both a width and an expression
 -- in front of what may follow them.
-use Rattle.std.proofs.Common.{◌≡◌, ℕ, zero, suc, Bool, true, false, List, [], ◌∷◌, Some, refl, ap, ◌∙◌}
+use Rattle.std.proofs.Common.{◌≡◌, ℕ, zero, suc, Bool, true, false, List, [], ◌∷◌, Option, Some, None, refl, ap, ◌∙◌}
 use Rattle.idl_token.specs.declared.kinds.Reserved.{Reserved}
 use Rattle.idl_token.specs.declared.kinds.Reserved.TheVariants as r
 use Rattle.idl_token.specs.declared.kinds.Special.{Special}
@@ -12,8 +12,8 @@ use Rattle.idl_tree.specs.declared.widths.Width.{Width}
 use Rattle.idl_tree.specs.declared.widths.EnumKind.{EnumKind}
 use Rattle.idl_tree.specs.declared.expressions.Unary.{Unary}
 use Rattle.idl_tree.specs.declared.expressions.Expr.{Expr}
-use Rattle.idl_grammar.specs.Symbol.{Symbol}
-use Rattle.idl_grammar.specs.Symbol as t
+use Rattle.idl_token.specs.Symbol.{Symbol}
+use Rattle.idl_token.specs.Symbol as t
 use Rattle.idl_grammar.specs.Tables.{Infix, binding, unary_of, summing, enum_of}
 use Rattle.idl_grammar.specs.WidthGrammar as w
 use Rattle.idl_grammar.specs.WidthGrammar.{ReadsWatom, ReadsTerm, ReadsSum, ReadsWidth}
@@ -90,41 +90,39 @@ scan d q f (c ∷ ts) = look (class c) d q f (λ d' q' f'. scan d' q' f' ts)
 other_is : (c : Symbol) → class c ≡ other → (d q : ℕ) (f : Bool) (ts : List Symbol) → scan d q f (c ∷ ts) ≡ scan d q false ts
 other_is c e d q f ts = ap (λ (x : Class). look x d q f (λ d' q' f'. scan d' q' f' ts)) e
 
+-- a table that has nothing for the signs that the scan looks at
+abbrev NoneAtMarks : {A : Type 0} → (Sign → Option A) → Type 0
+NoneAtMarks o =
+    (o s.OpenParen ≡ None)
+    × (o s.OpenBracket ≡ None)
+    × (o s.OpenBrace ≡ None)
+    × (o s.CloseParen ≡ None)
+    × (o s.CloseBracket ≡ None)
+    × (o s.CloseBrace ≡ None)
+    × (o s.Question ≡ None)
+    × (o s.Colon ≡ None)
+    × (o s.Comma ≡ None)
+
+sign_other : {A : Type 0} (o : Sign → Option A) → NoneAtMarks o → (c : Sign) (x : A) → o c ≡ Some x → sign_class c ≡ other
+sign_other o none s.OpenParen x e = let n = none.0 in absurd cc
+sign_other o none s.OpenBracket x e = let n = none.1 in absurd cc
+sign_other o none s.OpenBrace x e = let n = none.2 in absurd cc
+sign_other o none s.CloseParen x e = let n = none.3 in absurd cc
+sign_other o none s.CloseBracket x e = let n = none.4 in absurd cc
+sign_other o none s.CloseBrace x e = let n = none.5 in absurd cc
+sign_other o none s.Question x e = let n = none.6 in absurd cc
+sign_other o none s.Colon x e = let n = none.7 in absurd cc
+sign_other o none s.Comma x e = let n = none.8 in absurd cc
+sign_other o none c x e = refl
+
 binding_class : (c : Sign) (x : ℕ × Infix) → binding c ≡ Some x → sign_class c ≡ other
-binding_class s.OpenParen x e = absurd cc
-binding_class s.OpenBracket x e = absurd cc
-binding_class s.OpenBrace x e = absurd cc
-binding_class s.CloseParen x e = absurd cc
-binding_class s.CloseBracket x e = absurd cc
-binding_class s.CloseBrace x e = absurd cc
-binding_class s.Question x e = absurd cc
-binding_class s.Colon x e = absurd cc
-binding_class s.Comma x e = absurd cc
-binding_class c x e = refl
+binding_class = sign_other binding (refl, refl, refl, refl, refl, refl, refl, refl, refl)
 
 unary_class : (c : Sign) (x : Unary) → unary_of c ≡ Some x → sign_class c ≡ other
-unary_class s.OpenParen x e = absurd cc
-unary_class s.OpenBracket x e = absurd cc
-unary_class s.OpenBrace x e = absurd cc
-unary_class s.CloseParen x e = absurd cc
-unary_class s.CloseBracket x e = absurd cc
-unary_class s.CloseBrace x e = absurd cc
-unary_class s.Question x e = absurd cc
-unary_class s.Colon x e = absurd cc
-unary_class s.Comma x e = absurd cc
-unary_class c x e = refl
+unary_class = sign_other unary_of (refl, refl, refl, refl, refl, refl, refl, refl, refl)
 
 summing_class : (c : Sign) (x : Width → Width → Width) → summing c ≡ Some x → sign_class c ≡ other
-summing_class s.OpenParen x e = absurd cc
-summing_class s.OpenBracket x e = absurd cc
-summing_class s.OpenBrace x e = absurd cc
-summing_class s.CloseParen x e = absurd cc
-summing_class s.CloseBracket x e = absurd cc
-summing_class s.CloseBrace x e = absurd cc
-summing_class s.Question x e = absurd cc
-summing_class s.Colon x e = absurd cc
-summing_class s.Comma x e = absurd cc
-summing_class c x e = refl
+summing_class = sign_other summing (refl, refl, refl, refl, refl, refl, refl, refl, refl)
 
 enum_class : (c : Reserved) (x : EnumKind) → enum_of c ≡ Some x → reserved_class c ≡ other
 enum_class r.True x e = absurd cc

@@ -5,7 +5,7 @@ use Rattle.idl_tree.specs.declared.statements.Target.{Target}
 use Rattle.idl_tree.specs.declared.statements.Stmt.{Stmt}
 use Rattle.idl_tree.specs.declared.programs.Argument.{Argument}
 use Rattle.idl_tree.specs.declared.programs.Function.{Function}
-use Rattle.idl_grammar.specs.Symbol.{Symbol}
+use Rattle.idl_token.specs.Symbol.{Symbol}
 use Rattle.idl_grammar.specs.StmtGrammar as g
 use Rattle.idl_grammar.specs.StmtGrammar.{ReadsShape, ReadsTarget, ReadsStmt, ReadsElse, ReadsStmts, ReadsResult, ReadsArgument, ReadsArguments, ReadsTaken, ReadsAbout, ReadsFunction, ReadsFunctions}
 use Rattle.idl_grammar.proofs.Bounds.{Bounded, width_bounded, expr_bounded, args_bounded, inside_bounded}

@@ -9,8 +9,8 @@ use Rattle.idl_tree.specs.declared.expressions.Expr.TheVariants as e
 use Rattle.idl_tree.specs.declared.statements.Target.{Target}
 use Rattle.idl_tree.specs.declared.statements.Target.TheVariants as target
 use Rattle.idl_tree.specs.declared.statements.Stmt.TheVariants as st
-use Rattle.idl_grammar.specs.Symbol.{Symbol}
-use Rattle.idl_grammar.specs.Symbol as t
+use Rattle.idl_token.specs.Symbol.{Symbol}
+use Rattle.idl_token.specs.Symbol as t
 use Rattle.idl_grammar.specs.Tables.{loosest, sw_write}
 use Rattle.idl_grammar.specs.ExprGrammar as ge
 use Rattle.idl_grammar.specs.ExprGrammar.{ReadsLevel}

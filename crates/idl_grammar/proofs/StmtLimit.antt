@@ -7,8 +7,8 @@ use Rattle.idl_tree.specs.declared.expressions.Expr.TheVariants as e
 use Rattle.idl_tree.specs.declared.statements.Target.{Target}
 use Rattle.idl_tree.specs.declared.statements.Target.TheVariants as target
 use Rattle.idl_tree.specs.declared.statements.Stmt.TheVariants as st
-use Rattle.idl_grammar.specs.Symbol.{Symbol}
-use Rattle.idl_grammar.specs.Symbol as t
+use Rattle.idl_token.specs.Symbol.{Symbol}
+use Rattle.idl_token.specs.Symbol as t
 use Rattle.idl_grammar.specs.Tables.{sw_write}
 use Rattle.idl_grammar.specs.Outcome as o
 use Rattle.idl_grammar.specs.Outcome.{Outcome, Reader, Move, take, stop, pass, ◌>>=◌}

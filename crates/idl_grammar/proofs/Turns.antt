@@ -5,8 +5,8 @@ use Rattle.std.proofs.lemmas.Bool.{leb-true, le-leb, ltb-true, eqb-true, eq-eqb}
 use Rattle.idl_token.specs.declared.kinds.Sign.{Sign}
 use Rattle.idl_token.specs.declared.kinds.Sign.TheVariants as s
 use Rattle.idl_tree.specs.declared.expressions.Expr.TheVariants as e
-use Rattle.idl_grammar.specs.Symbol.{Symbol}
-use Rattle.idl_grammar.specs.Symbol as t
+use Rattle.idl_token.specs.Symbol.{Symbol}
+use Rattle.idl_token.specs.Symbol as t
 use Rattle.idl_grammar.specs.Tables.{Infix, plain, wide, binding, loosest}
 use Rattle.idl_grammar.specs.ExprGrammar.{Inside, part_of}
 use Rattle.idl_grammar.specs.Outcome as o

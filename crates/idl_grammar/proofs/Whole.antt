@@ -2,7 +2,7 @@
 -- fault is the first one.
 use Rattle.std.proofs.Common.{◌≡◌, ℕ, suc, ◌+◌, ◌-◌, ◌<◌, ◌≤◌, max, List, [], ◌∷◌, ◌++◌, length, take, Result, Ok, Err, refl, sym, ap, subst, ◌∙◌, append_assoc, length-append, arith, ◌⊎◌, inl, inr}
 use Rattle.std.proofs.lemmas.List.{nil_from_length, take_at}
-use Rattle.idl_grammar.specs.Symbol.{Symbol}
+use Rattle.idl_token.specs.Symbol.{Symbol}
 use Rattle.idl_grammar.specs.Outcome as o
 use Rattle.idl_grammar.specs.Outcome.{Outcome, Reader, left_of}
 use Rattle.idl_grammar.specs.StmtGrammar.{ReadsStmts, ReadsFunctions}

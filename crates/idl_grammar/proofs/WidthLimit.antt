@@ -6,8 +6,8 @@ use Rattle.std.proofs.lemmas.Bool.Decides.{leb_tells}
 use Rattle.idl_token.specs.declared.kinds.Reserved.TheVariants as r
 use Rattle.idl_token.specs.declared.kinds.Sign.TheVariants as s
 use Rattle.idl_tree.specs.declared.widths.Width.{Width}
-use Rattle.idl_grammar.specs.Symbol.{Symbol}
-use Rattle.idl_grammar.specs.Symbol as t
+use Rattle.idl_token.specs.Symbol.{Symbol}
+use Rattle.idl_token.specs.Symbol as t
 use Rattle.idl_grammar.specs.Tables.{summing, is_short}
 use Rattle.idl_grammar.specs.Outcome as o
 use Rattle.idl_grammar.specs.Outcome.{Outcome, Reader, Move, take, stop, pass}

@@ -1,7 +1,8 @@
--- Expressions, one constructor for each production: the tokens before the second list read as the
--- expression. The first number is the nesting: each expression counts one level, and so does a pair
--- of parentheses that isn't directly round a binary or a ternary form. A second number says how
--- loosely the expression binds: 0 for an operand, `loosest` for what a ternary form tests.
+-- Statement: the grammar of expressions, one constructor for each production: the tokens before
+-- the second list read as the expression. The first number is the nesting: each expression counts
+-- one level, and so does a pair of parentheses that isn't directly round a binary or a ternary
+-- form. A second number says how loosely the expression binds: 0 for an operand, `loosest` for
+-- what a ternary form tests.
 use Rattle.std.specs.Prelude.{◌≡◌, ℕ, suc, max, Bool, true, false, List, [], ◌∷◌, Some}
 use Rattle.idl_token.specs.declared.kinds.Reserved.{Reserved}
 use Rattle.idl_token.specs.declared.kinds.Reserved.TheVariants as r
@@ -15,8 +16,8 @@ use Rattle.idl_tree.specs.declared.expressions.Unary.{Unary}
 use Rattle.idl_tree.specs.declared.expressions.Binary.{Binary}
 use Rattle.idl_tree.specs.declared.expressions.Expr.{Expr}
 use Rattle.idl_tree.specs.declared.expressions.Expr.TheVariants as e
-use Rattle.idl_grammar.specs.Symbol.{Symbol}
-use Rattle.idl_grammar.specs.Symbol as t
+use Rattle.idl_token.specs.Symbol.{Symbol}
+use Rattle.idl_token.specs.Symbol as t
 use Rattle.idl_grammar.specs.Tables.{plain, wide, binding, loosest, unary_of, enum_of, is_access, sized_width, mxlen, sw_read}
 use Rattle.idl_grammar.specs.WidthGrammar.{ReadsWatom, ReadsWidth}
 

@@ -1,5 +1,5 @@
--- Expressions, read from left to right. A reader answers a value and its nesting, which is at most
--- the limit.
+-- Machinery: readers of expressions, from left to right, one for each production. A reader answers
+-- a value and its nesting, which is at most the limit.
 use Rattle.std.specs.Prelude.{ℕ, zero, suc, max, Bool, true, false, if◌then◌else◌, nat_eq, List, [], Option, Some, None}
 use Rattle.idl_token.specs.declared.kinds.Reserved.{Reserved}
 use Rattle.idl_token.specs.declared.kinds.Reserved.TheVariants as r
@@ -10,8 +10,8 @@ use Rattle.idl_tree.specs.declared.widths.EnumKind.{EnumKind}
 use Rattle.idl_tree.specs.declared.expressions.Unary.{Unary}
 use Rattle.idl_tree.specs.declared.expressions.Expr.{Expr}
 use Rattle.idl_tree.specs.declared.expressions.Expr.TheVariants as e
-use Rattle.idl_grammar.specs.Symbol.{Symbol}
-use Rattle.idl_grammar.specs.Symbol as t
+use Rattle.idl_token.specs.Symbol.{Symbol}
+use Rattle.idl_token.specs.Symbol as t
 use Rattle.idl_grammar.specs.Tables.{Infix, plain, wide, binding, loosest, unary_of, enum_of, is_access, sized_width, mxlen, sw_read}
 use Rattle.idl_grammar.specs.ExprGrammar.{Inside, place, slice, part_of}
 use Rattle.idl_grammar.specs.WidthReader as wr
@@ -33,7 +33,7 @@ abbrev pub access_by : Symbol → Move ℕ
 access_by (t.number k) = if is_access k then take (pure k) else stop
 access_by _ = stop
 
--- a number of bits, in angle brackets
+-- "<" 8, 16, 32 or 64 ">"
 unfoldable pub access : Reader ℕ
 access = do
   expect s.Less
@@ -43,12 +43,14 @@ access = do
 
 -- what follows an opening bracket, one within a nesting of n
 module _ (n : ℕ) (one : Reader Found) where
+  -- expression "]"
   unfoldable pub single : Reader (Inside × ℕ)
   single = do
     x ← one
     expect s.CloseBracket
     pure (place x.0, x.1)
 
+  -- width ":" width "]"
   unfoldable pub range : Reader (Inside × ℕ)
   range = do
     a ← width n
@@ -57,6 +59,7 @@ module _ (n : ℕ) (one : Reader Found) where
     expect s.CloseBracket
     pure (slice a.0 b.0, max a.1 b.1)
 
+  -- behind `[`: the farther of both
   unfoldable pub inside : Reader (Inside × ℕ)
   inside = either single range
 
@@ -64,23 +67,25 @@ module _ (n : ℕ) (one : Reader Found) where
 module _ (n : ℕ) (inner : Part → Reader Found) where
   -- ---- what stands in parentheses, braces and brackets
 
-  -- expressions within parentheses, after the opening one
+  -- behind `word(`: ")" | expression { "," expression } ")"
   unfoldable pub called : List ℕ → Reader Found
   called x = if_next s.CloseParen (pure (e.Call x [], 1)) (only n (do
     xs ← commas (inner any)
     expect s.CloseParen
     pure (e.Call x xs.0, suc xs.1)))
 
-  -- after a word
+  -- behind a word: [ "(" called ]
   unfoldable pub named : List ℕ → Reader Found
   named x = if_next s.OpenParen (called x) (pure (e.Word x, 1))
 
+  -- behind `{`: expression { "," expression } "}"
   unfoldable pub joined : Reader Found
   joined = do
     xs ← commas (inner any)
     expect s.CloseBrace
     pure (e.Join xs.0, xs.1)
 
+  -- behind `{`: width "{" expression "}" "}"
   unfoldable pub repeated : Reader Found
   repeated = do
     a ← width n
@@ -90,11 +95,13 @@ module _ (n : ℕ) (inner : Part → Reader Found) where
     expect s.CloseBrace
     pure (e.Repeat a.0 x.0, max a.1 x.1)
 
+  -- behind `{`: the farther of both
   unfoldable pub braced : Reader Found
   braced = do
     x ← either joined repeated
     pure (x.0, suc x.1)
 
+  -- behind `$signed`: "(" expression ")"
   unfoldable pub as_signed : Reader Found
   as_signed = do
     expect s.OpenParen
@@ -102,6 +109,7 @@ module _ (n : ℕ) (inner : Part → Reader Found) where
     expect s.CloseParen
     pure (e.Signed x.0, suc x.1)
 
+  -- behind `$resize`: "<" width ">" "(" expression ")"
   unfoldable pub resized : Reader Found
   resized = do
     expect s.Less
@@ -112,6 +120,7 @@ module _ (n : ℕ) (inner : Part → Reader Found) where
     expect s.CloseParen
     pure (e.Resize a.0 x.0, suc (max a.1 x.1))
 
+  -- behind `X`: "[" expression "]"
   unfoldable pub register : Reader Found
   register = do
     expect s.OpenBracket
@@ -119,6 +128,7 @@ module _ (n : ℕ) (inner : Part → Reader Found) where
     expect s.CloseBracket
     pure (e.Register x.0, suc x.1)
 
+  -- behind `read_memory`: "<" bits ">" "(" expression ")"
   unfoldable pub memory : Reader Found
   memory = do
     k ← access
@@ -127,24 +137,28 @@ module _ (n : ℕ) (inner : Part → Reader Found) where
     expect s.CloseParen
     pure (e.ReadMemory k x.0, suc x.1)
 
+  -- behind the type of an enumeration: "::" word
   unfoldable pub member : EnumKind → Reader Found
   member kind = do
     expect s.Path
     x ← name
     pure (e.Member kind x, 1)
 
+  -- behind `csr_value`: "." word
   unfoldable pub new_field : Reader Found
   new_field = do
     expect s.Dot
     x ← name
     pure (e.NewField x, 1)
 
+  -- behind `xlen` and `mode`: "(" ")"
   unfoldable pub empty_call : Expr → Reader Found
   empty_call x = do
     expect s.OpenParen
     expect s.CloseParen
     pure (x, 1)
 
+  -- behind `implemented?`: "(" "ExtensionName" "::" word
   unfoldable pub extension : Reader (List ℕ)
   extension = do
     expect s.OpenParen
@@ -152,6 +166,7 @@ module _ (n : ℕ) (inner : Part → Reader Found) where
     expect s.Path
     name
 
+  -- .. ")"
   unfoldable pub implemented : Reader Found
   implemented = do
     x ← extension
@@ -162,6 +177,7 @@ module _ (n : ℕ) (inner : Part → Reader Found) where
   text_by (t.quoted y) = take (pure y)
   text_by _ = stop
 
+  -- .. "," text ")"
   unfoldable pub implemented_version : Reader Found
   implemented_version = do
     x ← extension
@@ -172,7 +188,7 @@ module _ (n : ℕ) (inner : Part → Reader Found) where
 
   -- ---- CSRs
 
-  -- after an address and its bracket
+  -- behind an address and its bracket: "." "sw_read" "(" ")"
   unfoldable pub soft_read : Found → Reader Found
   soft_read x = do
     expect s.Dot
@@ -190,20 +206,21 @@ module _ (n : ℕ) (inner : Part → Reader Found) where
   unfoldable pub field_or_read : List ℕ → List ℕ → Reader Found
   field_or_read x y = if same_text y sw_read then choose (read_by x) (pure (e.Field x y, 1)) else pure (e.Field x y, 1)
 
-  -- after `CSR[x]`
+  -- behind `CSR[x]`: "." word, where `sw_read` may have "(" ")" behind it
   unfoldable pub field : List ℕ → Reader Found
   field x = do
     expect s.Dot
     y ← name
     field_or_read x y
 
+  -- an expression, or the rest of one, "]" soft_read
   unfoldable pub address : Part → Reader Found
   address q = do
     x ← inner q
     expect s.CloseBracket
     soft_read x
 
-  -- after `CSR[` and a word
+  -- behind `CSR[` and a word: "]" field | address
   unfoldable pub csr_word : List ℕ → Reader Found
   csr_word x = if_next s.CloseBracket (field x) (only n (address (behind x)))
 
@@ -211,6 +228,7 @@ module _ (n : ℕ) (inner : Part → Reader Found) where
   csr_by (t.word x) = take (csr_word x)
   csr_by _ = pass
 
+  -- behind `CSR`: "[" ( word csr_word | address )
   unfoldable pub csr : Reader Found
   csr = do
     expect s.OpenBracket
@@ -222,6 +240,7 @@ module _ (n : ℕ) (inner : Part → Reader Found) where
   part_by again x (t.sign s.OpenBracket) = allowed x.1 n (do j ← inside n (inner any); again (part_of x.0 j.0, suc (max x.1 j.1)))
   part_by again x _ = pass
 
+  -- { "[" inside }
   unfoldable pub parts : ℕ → Found → Reader Found
   parts zero x = choose (part_by (λ _. refuse) x) (pure x)
   parts (suc f) x = choose (part_by (parts f) x) (pure x)
@@ -238,7 +257,7 @@ module _ (n : ℕ) (inner : Part → Reader Found) where
   more_by again k x (t.sign c) = operator_by again k x (binding c)
   more_by again k x _ = pass
 
-  -- operators of a level with their right operands; each adds to the nesting
+  -- { a sign of the level, operand of the level }; each adds to the nesting
   unfoldable pub more : ℕ → ℕ → Found → Reader Found
   more zero k x = choose (more_by (λ _. refuse) k x) (pure x)
   more (suc f) k x = choose (more_by (more f k) k x) (pure x)
@@ -256,6 +275,7 @@ module _ (n : ℕ) (inner : Part → Reader Found) where
     pure (e.Choice x.0 y.0 z.0, suc (max x.1 (max y.1 z.1))))
   choice_by x _ = pass
 
+  -- [ "?" expression ":" expression ]
   unfoldable pub choice : Found → Reader Found
   choice x = choose (choice_by x) (pure x)
 
@@ -265,7 +285,7 @@ module _ (n : ℕ) (inner : Part → Reader Found) where
 
   -- ---- operands
 
-  -- in parentheses an operand alone nests one level deeper than one before a sign
+  -- behind `(`: operand rest_of ")"; an operand alone nests one level deeper than one before a sign
   unfoldable pub parens : Reader Found
   parens = do
     x ← inner (tight 0)
@@ -308,6 +328,7 @@ module _ (n : ℕ) (inner : Part → Reader Found) where
   atom_by (t.sign s.OpenBrace) = deeper n braced
   atom_by _ = stop
 
+  -- atom parts
   unfoldable pub post : Reader Found
   post = do x ← among atom_by; parts (suc n) x
 
@@ -319,6 +340,7 @@ module _ (n : ℕ) (inner : Part → Reader Found) where
   unary_by (t.sign c) = signed_by (unary_of c)
   unary_by _ = pass
 
+  -- ( "!" | "~" | "-" ) operand | post
   unfoldable pub operand : Reader Found
   operand = choose unary_by post
 

@@ -1,4 +1,3 @@
-pub mod Symbol
 pub mod Tables
 pub mod WidthGrammar
 pub mod ExprGrammar

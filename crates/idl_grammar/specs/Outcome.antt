@@ -1,5 +1,5 @@
--- Reading from left to right. An outcome is what was read and the tokens after it, or the tokens
--- from the fault on.
+-- Machinery: readers of lists of tokens, from left to right. An outcome is what was read and the
+-- tokens after it, or the tokens from the fault on.
 use Rattle.std.specs.Prelude.{ℕ, zero, suc, Bool, false, if◌then◌else◌, nat_le, List, [], ◌∷◌, length, max, Option, Some, None, Result, Ok, Err}
 use Rattle.std.specs.Cmp.Lexicographic.{pointwise}
 use Rattle.std.specs.Prelude.{nat_eq}
@@ -9,8 +9,8 @@ use Rattle.idl_token.specs.contracts.kinds.Reserved as reserved_type
 use Rattle.idl_token.specs.declared.kinds.Reserved.{Reserved}
 use Rattle.idl_token.specs.declared.kinds.Sign.{Sign}
 use Rattle.idl_token.specs.declared.kinds.Sign.TheVariants as s
-use Rattle.idl_grammar.specs.Symbol.{Symbol}
-use Rattle.idl_grammar.specs.Symbol as t
+use Rattle.idl_token.specs.Symbol.{Symbol}
+use Rattle.idl_token.specs.Symbol as t
 
 abbrev pub Outcome : Type 0 → Type 0
 Outcome A = Result (A × List Symbol) (List Symbol)

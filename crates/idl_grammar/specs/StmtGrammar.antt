@@ -1,6 +1,7 @@
--- Types, statements and functions, one constructor for each production: the tokens before the second
--- list read as the tree. The number is the nesting: each statement and each target counts one level;
--- `else if` counts as the `if` in the block behind `else` that it is.
+-- Statement: the grammar of types, statements and functions, one constructor for each production:
+-- the tokens before the second list read as the tree. The number is the nesting: each statement
+-- and each target counts one level; `else if` counts as the `if` in the block behind `else` that
+-- it is.
 use Rattle.std.specs.Prelude.{◌≡◌, ℕ, suc, max, true, false, List, [], ◌∷◌, Option, None, Some}
 use Rattle.idl_token.specs.declared.kinds.Reserved.{Reserved}
 use Rattle.idl_token.specs.declared.kinds.Reserved.TheVariants as r
@@ -17,8 +18,8 @@ use Rattle.idl_tree.specs.declared.statements.Stmt.{Stmt}
 use Rattle.idl_tree.specs.declared.statements.Stmt.TheVariants as st
 use Rattle.idl_tree.specs.declared.programs.Argument.{Argument}
 use Rattle.idl_tree.specs.declared.programs.Function.{Function}
-use Rattle.idl_grammar.specs.Symbol.{Symbol}
-use Rattle.idl_grammar.specs.Symbol as t
+use Rattle.idl_token.specs.Symbol.{Symbol}
+use Rattle.idl_token.specs.Symbol as t
 use Rattle.idl_grammar.specs.Tables.{is_access, mxlen, sw_write}
 use Rattle.idl_grammar.specs.WidthGrammar.{ReadsWidth}
 use Rattle.idl_grammar.specs.ExprGrammar.{Inside, place, slice, ReadsExpr, ReadsArgs, ReadsInside}

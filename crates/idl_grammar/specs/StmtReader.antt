@@ -1,5 +1,5 @@
--- Types, statements and functions, read from left to right. A reader answers a value and its nesting,
--- which is at most the limit.
+-- Machinery: readers of types, statements and functions, from left to right, one for each
+-- production. A reader answers a value and its nesting, which is at most the limit.
 use Rattle.std.specs.Prelude.{ℕ, zero, suc, ◌-◌, max, Bool, true, false, if◌then◌else◌, List, [], ◌∷◌, Option, Some, None, Result}
 use Rattle.idl_token.specs.declared.kinds.Reserved.{Reserved}
 use Rattle.idl_token.specs.declared.kinds.Reserved.TheVariants as r
@@ -13,8 +13,8 @@ use Rattle.idl_tree.specs.declared.statements.Stmt.{Stmt}
 use Rattle.idl_tree.specs.declared.statements.Stmt.TheVariants as st
 use Rattle.idl_tree.specs.declared.programs.Argument.{Argument}
 use Rattle.idl_tree.specs.declared.programs.Function.{Function}
-use Rattle.idl_grammar.specs.Symbol.{Symbol}
-use Rattle.idl_grammar.specs.Symbol as t
+use Rattle.idl_token.specs.Symbol.{Symbol}
+use Rattle.idl_token.specs.Symbol as t
 use Rattle.idl_grammar.specs.Tables.{sw_write}
 use Rattle.idl_grammar.specs.StmtGrammar.{short_shape, part_of_word}
 use Rattle.idl_grammar.specs.WidthReader.{width}
@@ -27,6 +27,7 @@ use Rattle.idl_grammar.specs.Outcome.{Reader, ◌>>=◌, ◌>>◌, pure, refuse,
 abbrev pub Typed : Type 0
 Typed = Shape × ℕ
 
+-- behind `Bits`: "<" width ">"
 unfoldable pub bits : ℕ → Bool → Reader Typed
 bits n f = do
   expect s.Less
@@ -34,6 +35,7 @@ bits n f = do
   expect s.Greater
   pure (sh.Bits f a.0, a.1)
 
+-- behind `signed`: "Bits" "<" width ">"
 unfoldable pub signed_bits : ℕ → Reader Typed
 signed_bits n = do
   want (is_reserved r.Bits)
@@ -49,6 +51,7 @@ shape_by n (t.reserved r.Signed) = take (signed_bits n)
 shape_by n (t.reserved c) = short_by (short_shape c)
 shape_by n _ = stop
 
+-- type = "Bits" .. | "signed" "Bits" .. | a word for a type alone
 unfoldable pub shape : ℕ → Reader Typed
 shape n = among (shape_by n)
 
@@ -66,13 +69,14 @@ Rest = Option (List Stmt) × ℕ
 -- a statement of nesting at most suc n; inner reads statements of nesting at most n, and later, after
 -- an `if`, one of nesting at most n
 module _ (n : ℕ) (inner : Reader Rows) (later : Reader One) where
-  -- after the target, of nesting h, and its sign
+  -- behind a target, of nesting h, and its sign: expression ";"
   unfoldable pub assigned : Target → ℕ → Reader One
   assigned x h = do
     y ← expr n
     expect s.Semicolon
     pure (st.Assign x y.0, suc (max h y.1))
 
+  -- behind `word(`: ")" ";" | expression { "," expression } ")" ";"
   unfoldable pub called : List ℕ → Reader One
   called x = if_next s.CloseParen (do expect s.Semicolon; pure (st.Call x [], 1)) (only n (do
     ys ← commas (expr n)
@@ -80,6 +84,7 @@ module _ (n : ℕ) (inner : Reader Rows) (later : Reader One) where
     expect s.Semicolon
     pure (st.Call x ys.0, suc ys.1)))
 
+  -- behind `word[`: inside "=" expression ";"
   unfoldable pub part : List ℕ → Reader One
   part x = do
     j ← inside (n - 1) (expr (n - 1))
@@ -92,9 +97,11 @@ module _ (n : ℕ) (inner : Reader Rows) (later : Reader One) where
   word_by x (t.sign s.OpenBracket) = deeper n (part x)
   word_by x _ = stop
 
+  -- behind a word: "(" called | "=" assigned | "[" part
   unfoldable pub worded : List ℕ → Reader One
   worded x = among (word_by x)
 
+  -- behind `X`: "[" expression "]" "=" expression ";"
   unfoldable pub register : Reader One
   register = do
     expect s.OpenBracket
@@ -105,7 +112,7 @@ module _ (n : ℕ) (inner : Reader Rows) (later : Reader One) where
 
   -- ---- CSRs
 
-  -- after the address and `.sw_write(`
+  -- behind an address and `.sw_write(`: expression ")" ";"
   unfoldable pub written : Found → Reader One
   written x = do
     y ← expr n
@@ -113,6 +120,7 @@ module _ (n : ℕ) (inner : Reader Rows) (later : Reader One) where
     expect s.Semicolon
     pure (st.SoftWrite x.0 y.0, suc (max x.1 y.1))
 
+  -- behind an address and its bracket: "." "sw_write" "(" written
   unfoldable pub soft_write : Found → Reader One
   soft_write x = do
     expect s.Dot
@@ -120,12 +128,14 @@ module _ (n : ℕ) (inner : Reader Rows) (later : Reader One) where
     expect s.OpenParen
     written x
 
+  -- an expression, or the rest of one, "]" soft_write
   unfoldable pub address : Part → Reader One
   address q = do
     x ← expr_part n q
     expect s.CloseBracket
     soft_write x
 
+  -- behind `CSR[x].y`: "=" expression ";"
   unfoldable pub field_set : List ℕ → List ℕ → Reader One
   field_set x y = do
     expect s.Assign
@@ -135,15 +145,18 @@ module _ (n : ℕ) (inner : Reader Rows) (later : Reader One) where
   write_by x (t.sign s.OpenParen) = take (written (e.Word x, 1))
   write_by x _ = pass
 
+  -- behind `CSR[x].y`: field_set, and where y is `sw_write` also "(" written
   unfoldable pub field_or_write : List ℕ → List ℕ → Reader One
   field_or_write x y = if same_text y sw_write then choose (write_by x) (field_set x y) else field_set x y
 
+  -- behind `CSR[x]`: "." word field_or_write
   unfoldable pub field : List ℕ → Reader One
   field x = do
     expect s.Dot
     y ← name
     field_or_write x y
 
+  -- behind `CSR[` and a word: "]" field | address
   unfoldable pub csr_word : List ℕ → Reader One
   csr_word x = if_next s.CloseBracket (field x) (address (er.behind x))
 
@@ -151,6 +164,7 @@ module _ (n : ℕ) (inner : Reader Rows) (later : Reader One) where
   csr_by (t.word x) = take (csr_word x)
   csr_by _ = pass
 
+  -- behind `CSR`: "[" ( word csr_word | address )
   unfoldable pub csr : Reader One
   csr = do
     expect s.OpenBracket
@@ -158,13 +172,14 @@ module _ (n : ℕ) (inner : Reader Rows) (later : Reader One) where
 
   -- ---- blocks
 
-  -- after the opening brace
+  -- behind `{`: { statement } "}"
   unfoldable pub braced : Reader Rows
   braced = do
     xs ← inner
     expect s.CloseBrace
     pure xs
 
+  -- a block as a statement
   unfoldable pub blocked : Reader One
   blocked = do
     xs ← braced
@@ -175,10 +190,11 @@ module _ (n : ℕ) (inner : Reader Rows) (later : Reader One) where
   else_by (t.reserved r.If) = deeper (n - 1) (do x ← later; pure (Some (x.0 ∷ []), x.1))
   else_by _ = stop
 
+  -- [ "else" ( block | "if" when ) ]
   unfoldable pub otherwise : Reader Rest
   otherwise = if_reserved r.Else (among else_by) (pure (None, 0))
 
-  -- after `if`
+  -- behind `if`: "(" expression ")" block otherwise
   unfoldable pub when : Reader One
   when = do
     expect s.OpenParen
@@ -189,7 +205,7 @@ module _ (n : ℕ) (inner : Reader Rows) (later : Reader One) where
     zs ← otherwise
     pure (st.If x.0 ys.0 zs.0, suc (max x.1 (max ys.1 zs.1)))
 
-  -- after `for`
+  -- behind `for`: "(" "U32" word "=" width ";" word "<" width ";" word "++" ")" block, one word
   unfoldable pub count : Reader One
   count = do
     expect s.OpenParen
@@ -211,12 +227,14 @@ module _ (n : ℕ) (inner : Reader Rows) (later : Reader One) where
 
   -- ---- other statements
 
+  -- behind `return`: expression ";"
   unfoldable pub give : Reader One
   give = do
     x ← expr n
     expect s.Semicolon
     pure (st.Return x.0, suc x.1)
 
+  -- behind `jump`: "(" expression ")" ";"
   unfoldable pub jump : Reader One
   jump = do
     expect s.OpenParen
@@ -225,6 +243,7 @@ module _ (n : ℕ) (inner : Reader Rows) (later : Reader One) where
     expect s.Semicolon
     pure (st.Jump x.0, suc x.1)
 
+  -- behind `raise`: "(" expression "," "mode" "(" ")" "," expression ")" ";"
   unfoldable pub trap : Reader One
   trap = do
     expect s.OpenParen
@@ -239,6 +258,7 @@ module _ (n : ℕ) (inner : Reader Rows) (later : Reader One) where
     expect s.Semicolon
     pure (st.Raise x.0 y.0, suc (max x.1 y.1))
 
+  -- behind `write_memory`: "<" bits ">" "(" expression "," expression ")" ";"
   unfoldable pub memory : Reader One
   memory = do
     k ← access
@@ -250,6 +270,7 @@ module _ (n : ℕ) (inner : Reader Rows) (later : Reader One) where
     expect s.Semicolon
     pure (st.WriteMemory k x.0 y.0, suc (max x.1 y.1))
 
+  -- type word "=" expression ";"
   unfoldable pub declared : Reader One
   declared = do
     x ← shape n
@@ -276,6 +297,7 @@ module _ (n : ℕ) (inner : Reader Rows) (later : Reader One) where
   stmt_by (t.reserved c) = reserved_by c
   stmt_by _ = pass
 
+  -- statement = word worded | block | one that begins with a word of the language | declared
   unfoldable pub stmt : Reader One
   stmt = choose stmt_by (only n declared)
 
@@ -318,15 +340,18 @@ unfoldable mutual
 
 -- ---- functions
 
+-- [ "returns" type ]
 unfoldable pub result : ℕ → Reader (Option Shape × ℕ)
 result n = if_reserved r.Returns (do x ← shape n; pure (Some x.0, x.1)) (pure (None, 0))
 
+-- type word
 unfoldable pub argument : ℕ → Reader (Argument × ℕ)
 argument n = do
   x ← shape n
   y ← name
   pure (record { shape = x.0; name = y }, x.1)
 
+-- [ "arguments" argument { "," argument } ]
 unfoldable pub taken : ℕ → Reader (List Argument × ℕ)
 taken n = if_reserved r.Arguments (commas (argument n)) (pure ([], 0))
 
@@ -334,9 +359,11 @@ abbrev pub about_by : Symbol → Move (Unit {0})
 about_by t.described = take (do expect s.CloseBrace; pure tt)
 about_by _ = pass
 
+-- [ "description" "{" [ text ] "}" ]
 unfoldable pub about : Reader (Unit {0})
 about = if_reserved r.Description (do expect s.OpenBrace; choose about_by (do expect s.CloseBrace; pure tt)) (pure tt)
 
+-- "function" word "{" result taken about "body" block "}"
 unfoldable pub function : ℕ → Reader (Function × ℕ)
 function n = do
   want (is_reserved r.Function)
@@ -352,6 +379,7 @@ function n = do
   expect s.CloseBrace
   pure (record { name = x; result = y.0; arguments = xs.0; body = record { variables = []; statements = ys.0 } }, max y.1 (max xs.1 ys.1))
 
+-- { function }
 unfoldable pub functions : ℕ → Reader (List Function × ℕ)
 functions n = rows (is_reserved r.Function) (function n)
 

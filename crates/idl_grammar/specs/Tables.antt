@@ -1,9 +1,11 @@
--- Which signs and words stand for which forms.
-use Rattle.std.specs.Prelude.{ℕ, Bool, true, false, ◌||◌, ◌==◌, nat_le, List, codes, Option, None, Some}
+-- Statement: which signs and words stand for which forms of the tree.
+use Rattle.std.specs.Prelude.{ℕ, Bool, true, false, ◌||◌, ◌==◌, List, codes, Option, None, Some}
 use Rattle.idl_token.specs.declared.kinds.Reserved.{Reserved}
 use Rattle.idl_token.specs.declared.kinds.Reserved.TheVariants as r
 use Rattle.idl_token.specs.declared.kinds.Sign.{Sign}
 use Rattle.idl_token.specs.declared.kinds.Sign.TheVariants as s
+pub use Rattle.idl_token.specs.Precedence.{precedence, loosest}
+pub use Rattle.idl_token.specs.Numbers.{is_short}
 use Rattle.idl_token.specs.Numbers as numbers
 use Rattle.idl_token.specs.Numbers.{SizedWidth}
 use Rattle.idl_tree.specs.declared.widths.Width.{Width}
@@ -20,37 +22,43 @@ pub data Infix : Type 0 where
   plain : Binary → Infix
   wide : Infix
 
--- how loosely a sign binds, products first, and its form
+-- the form of a sign between two operands
+abbrev pub infix_of : Sign → Option Infix
+infix_of s.Times = Some (plain b.Mul)
+infix_of s.WideTimes = Some (plain b.WideMul)
+infix_of s.Divide = Some (plain b.Div)
+infix_of s.Remainder = Some (plain b.Rem)
+infix_of s.Plus = Some (plain b.Add)
+infix_of s.Minus = Some (plain b.Sub)
+infix_of s.WidePlus = Some (plain b.WideAdd)
+infix_of s.WideMinus = Some (plain b.WideSub)
+infix_of s.Left = Some (plain b.Left)
+infix_of s.Right = Some (plain b.Right)
+infix_of s.RightSigned = Some (plain b.RightSigned)
+infix_of s.WideLeft = Some wide
+infix_of s.Less = Some (plain b.Below)
+infix_of s.AtMost = Some (plain b.AtMost)
+infix_of s.Greater = Some (plain b.Above)
+infix_of s.AtLeast = Some (plain b.AtLeast)
+infix_of s.Equal = Some (plain b.Equal)
+infix_of s.NotEqual = Some (plain b.NotEqual)
+infix_of s.Ampersand = Some (plain b.BitAnd)
+infix_of s.Caret = Some (plain b.BitXor)
+infix_of s.Bar = Some (plain b.BitOr)
+infix_of s.And = Some (plain b.And)
+infix_of s.Or = Some (plain b.Or)
+infix_of _ = None
+
+-- of two that may be missing, both
+abbrev pub zip : Option ℕ → Option Infix → Option (ℕ × Infix)
+zip (Some k) (Some op) = Some (k, op)
+zip _ _ = None
+
+-- the precedence of a sign between two operands, and its form
 abbrev pub binding : Sign → Option (ℕ × Infix)
-binding s.Times = Some (0, plain b.Mul)
-binding s.WideTimes = Some (0, plain b.WideMul)
-binding s.Divide = Some (0, plain b.Div)
-binding s.Remainder = Some (0, plain b.Rem)
-binding s.Plus = Some (1, plain b.Add)
-binding s.Minus = Some (1, plain b.Sub)
-binding s.WidePlus = Some (1, plain b.WideAdd)
-binding s.WideMinus = Some (1, plain b.WideSub)
-binding s.Left = Some (2, plain b.Left)
-binding s.Right = Some (2, plain b.Right)
-binding s.RightSigned = Some (2, plain b.RightSigned)
-binding s.WideLeft = Some (2, wide)
-binding s.Less = Some (3, plain b.Below)
-binding s.AtMost = Some (3, plain b.AtMost)
-binding s.Greater = Some (3, plain b.Above)
-binding s.AtLeast = Some (3, plain b.AtLeast)
-binding s.Equal = Some (4, plain b.Equal)
-binding s.NotEqual = Some (4, plain b.NotEqual)
-binding s.Ampersand = Some (5, plain b.BitAnd)
-binding s.Caret = Some (6, plain b.BitXor)
-binding s.Bar = Some (7, plain b.BitOr)
-binding s.And = Some (8, plain b.And)
-binding s.Or = Some (9, plain b.Or)
-binding _ = None
+binding c = zip (precedence c) (infix_of c)
 
--- how many levels of binary forms there are
-abbrev pub loosest : ℕ
-loosest = 10
-
+-- what stands before an operand
 abbrev pub unary_of : Sign → Option Unary
 unary_of s.Not = Some u.Not
 unary_of s.Tilde = Some u.Invert
@@ -68,10 +76,6 @@ enum_of r.PrivilegeMode = Some kind.PrivilegeMode
 enum_of r.ExceptionCode = Some kind.ExceptionCode
 enum_of r.CsrFieldType = Some kind.CsrFieldType
 enum_of _ = None
-
--- a number that stands in a width
-abbrev pub is_short : ℕ → Bool
-is_short n = nat_le n 65535
 
 -- how many bits an access to memory has
 abbrev pub is_access : ℕ → Bool

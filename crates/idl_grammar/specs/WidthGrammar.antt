@@ -1,6 +1,6 @@
--- Widths, one constructor for each production: the tokens before the second list read as the width.
--- The number is the nesting: a sum, a product and a `max` count one level each, and so does a pair
--- of parentheses that isn't directly round a sum.
+-- Statement: the grammar of widths, one constructor for each production: the tokens before the
+-- second list read as the width. The number is the nesting: a sum, a product and a `max` count one
+-- level each, and so does a pair of parentheses that isn't directly round a sum.
 use Rattle.std.specs.Prelude.{◌≡◌, ℕ, suc, max, Bool, true, false, List, ◌∷◌, None, Some}
 use Rattle.idl_token.specs.declared.kinds.Reserved.TheVariants as r
 use Rattle.idl_token.specs.declared.kinds.Special.TheVariants as p
@@ -8,8 +8,8 @@ use Rattle.idl_token.specs.declared.kinds.Sign.{Sign}
 use Rattle.idl_token.specs.declared.kinds.Sign.TheVariants as s
 use Rattle.idl_tree.specs.declared.widths.Width.{Width}
 use Rattle.idl_tree.specs.declared.widths.Width.TheVariants as w
-use Rattle.idl_grammar.specs.Symbol.{Symbol}
-use Rattle.idl_grammar.specs.Symbol as t
+use Rattle.idl_token.specs.Symbol.{Symbol}
+use Rattle.idl_token.specs.Symbol as t
 use Rattle.idl_grammar.specs.Tables.{summing, is_short}
 
 mutual

@@ -1,13 +1,13 @@
--- Widths, read from left to right. A reader answers the width, whether it may be multiplied, and its
--- nesting, which is at most the limit.
+-- Machinery: readers of widths, from left to right, one for each production. A reader answers the
+-- width, whether it may be multiplied, and its nesting, which is at most the limit.
 use Rattle.std.specs.Prelude.{ℕ, zero, suc, max, Bool, true, false, if◌then◌else◌, nat_lt, Option, Some, None}
 use Rattle.idl_token.specs.declared.kinds.Reserved.TheVariants as r
 use Rattle.idl_token.specs.declared.kinds.Special.TheVariants as p
 use Rattle.idl_token.specs.declared.kinds.Sign.TheVariants as s
 use Rattle.idl_tree.specs.declared.widths.Width.{Width}
 use Rattle.idl_tree.specs.declared.widths.Width.TheVariants as w
-use Rattle.idl_grammar.specs.Symbol.{Symbol}
-use Rattle.idl_grammar.specs.Symbol as t
+use Rattle.idl_token.specs.Symbol.{Symbol}
+use Rattle.idl_token.specs.Symbol as t
 use Rattle.idl_grammar.specs.Tables.{summing, is_short}
 use Rattle.idl_grammar.specs.Outcome.{Reader, ◌>>=◌, ◌>>◌, pure, refuse, Move, take, stop, pass, choose, among, expect, name, deeper}
 
@@ -36,6 +36,7 @@ bits_by (t.reserved r.Csr) = take (do
   pure (w.Bits (Some x) y, true, 0))
 bits_by _ = stop
 
+-- behind `$bits`: "(" ( word | "CSR" "[" word "]" "." word ) ")"
 unfoldable pub bits : Reader Found
 bits = do expect s.OpenParen; among bits_by
 
@@ -54,11 +55,12 @@ module _ (n : ℕ) (inner : Part → Reader Found) where
   sums_by again x (t.sign c) = sum_by again x (summing c)
   sums_by again x _ = pass
 
+  -- sums = { ( "+" | "-" ) term }
   unfoldable pub sums : ℕ → Found → Reader Found
   sums zero x = choose (sums_by (λ _. refuse) x) (pure x)
   sums (suc f) x = choose (sums_by (sums f) x) (pure x)
 
-  -- after the opening parenthesis
+  -- behind the parenthesis of an atom: term sums ")"
   unfoldable pub parens : Reader Found
   parens = do
     x ← inner term
@@ -66,12 +68,14 @@ module _ (n : ℕ) (inner : Part → Reader Found) where
     expect s.CloseParen
     pure (y.0, y.1, max (suc x.2) y.2)
 
+  -- behind the parenthesis of a factor: product ")"
   unfoldable pub factor_parens : Reader Found
   factor_parens = do
     x ← inner product
     expect s.CloseParen
     pure (x.0, x.1, suc x.2)
 
+  -- behind `max`: "(" width "," width ")"
   unfoldable pub greatest : Reader Found
   greatest = do
     expect s.OpenParen
@@ -90,7 +94,8 @@ module _ (n : ℕ) (inner : Part → Reader Found) where
   atom_by false (t.reserved r.Max) = deeper n greatest
   atom_by _ _ = stop
 
-  -- an atom, or where the flag stands a factor
+  -- atom = number | word | "$bits" .. | "(" term sums ")" | "max" .., and where the flag stands
+  -- factor = number | word | "$bits" .. | "(" product ")"
   unfoldable pub atoms : Bool → Reader Found
   atoms m = among (atom_by m)
 
@@ -103,6 +108,7 @@ module _ (n : ℕ) (inner : Part → Reader Found) where
   times_by x (t.sign s.Times) = if x.1 then (if nat_lt x.2 n then take (among (number_by x)) else stop) else pass
   times_by x _ = pass
 
+  -- behind a term: [ "*" number ], where it may be multiplied
   unfoldable pub multiplied : Found → Reader Found
   multiplied x = choose (times_by x) (pure x)
 
@@ -111,6 +117,7 @@ module _ (n : ℕ) (inner : Part → Reader Found) where
   factor_by k (t.sign s.Times) = deeper n (do y ← inner factor; pure (w.Times (w.Number k) y.0, true, suc y.2))
   factor_by k _ = pass
 
+  -- behind a number: [ "*" factor ]
   unfoldable pub after_number : ℕ → Reader Found
   after_number k = choose (factor_by k) (pure (w.Number k, true, 0))
 
@@ -118,9 +125,12 @@ module _ (n : ℕ) (inner : Part → Reader Found) where
   term_by (t.number k) = short_by k (after_number k)
   term_by _ = pass
 
+  -- term = number after_number | atom multiplied, and where the flag stands
+  -- product = number after_number | factor multiplied
   unfoldable pub terms : Bool → Reader Found
   terms m = choose term_by (do x ← atoms m; multiplied x)
 
+  -- the part of a width; width = term sums
   unfoldable pub level : Part → Reader Found
   level atom = atoms false
   level term = terms false

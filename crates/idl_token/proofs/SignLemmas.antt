@@ -14,88 +14,17 @@ use Rattle.idl_token.specs.Front.{reserved_of, special_of, sign_of}
 pub reserved-itself : (w : Reserved) → reserved_of (reserved_text w) ≡ Some w
 unfolding reserved_words
 reserved-itself r.Bits = refl
-reserved-itself r.Boolean = refl
-reserved-itself r.XReg = refl
-reserved-itself r.U32 = refl
-reserved-itself r.U64 = refl
-reserved-itself r.Signed = refl
-reserved-itself r.True = refl
-reserved-itself r.False = refl
-reserved-itself r.If = refl
-reserved-itself r.Else = refl
-reserved-itself r.For = refl
-reserved-itself r.Return = refl
-reserved-itself r.Function = refl
-reserved-itself r.Returns = refl
-reserved-itself r.Arguments = refl
-reserved-itself r.Description = refl
-reserved-itself r.Body = refl
-reserved-itself r.X = refl
-reserved-itself r.Csr = refl
-reserved-itself r.Max = refl
-reserved-itself r.Mode = refl
-reserved-itself r.Xlen = refl
-reserved-itself r.Jump = refl
-reserved-itself r.Raise = refl
-reserved-itself r.ReadMemory = refl
-reserved-itself r.WriteMemory = refl
-reserved-itself r.PrivilegeMode = refl
-reserved-itself r.ExceptionCode = refl
-reserved-itself r.CsrFieldType = refl
-reserved-itself r.ExtensionName = refl
-reserved-itself r.CsrValue = refl
+reserved-itself _ = refl
 
 pub special-itself : (w : Special) → special_of (special_text w) ≡ Some w
 unfolding special_words
 special-itself p.Implemented = refl
-special-itself p.ImplementedVersion = refl
-special-itself p.AsSigned = refl
-special-itself p.Resize = refl
-special-itself p.WidthOf = refl
-special-itself p.Pc = refl
-special-itself p.Encoding = refl
+special-itself _ = refl
 
 pub sign-itself : (w : Sign) → sign_of (sign_text w) ≡ Some w
 unfolding signs
 sign-itself s.OpenParen = refl
-sign-itself s.CloseParen = refl
-sign-itself s.OpenBracket = refl
-sign-itself s.CloseBracket = refl
-sign-itself s.OpenBrace = refl
-sign-itself s.CloseBrace = refl
-sign-itself s.Less = refl
-sign-itself s.Greater = refl
-sign-itself s.Comma = refl
-sign-itself s.Semicolon = refl
-sign-itself s.Colon = refl
-sign-itself s.Dot = refl
-sign-itself s.Path = refl
-sign-itself s.Question = refl
-sign-itself s.Assign = refl
-sign-itself s.Equal = refl
-sign-itself s.NotEqual = refl
-sign-itself s.AtMost = refl
-sign-itself s.AtLeast = refl
-sign-itself s.Left = refl
-sign-itself s.Right = refl
-sign-itself s.RightSigned = refl
-sign-itself s.WideLeft = refl
-sign-itself s.WidePlus = refl
-sign-itself s.WideMinus = refl
-sign-itself s.WideTimes = refl
-sign-itself s.Plus = refl
-sign-itself s.Minus = refl
-sign-itself s.Times = refl
-sign-itself s.Divide = refl
-sign-itself s.Remainder = refl
-sign-itself s.Ampersand = refl
-sign-itself s.Bar = refl
-sign-itself s.Caret = refl
-sign-itself s.Tilde = refl
-sign-itself s.Not = refl
-sign-itself s.And = refl
-sign-itself s.Or = refl
-sign-itself s.Increment = refl
+sign-itself _ = refl
 
 data IsIn (h : Sign) : List Sign → Type 0 where
   here : {x : Sign} {xs : List Sign} → x ≡ h → IsIn h (x ∷ xs)

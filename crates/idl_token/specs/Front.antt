@@ -1,5 +1,7 @@
--- What stands at the front of a source from a place on. Sources are lists of their bytes in UTF-8; only texts, comments and descriptions hold bytes past ASCII.
-use Rattle.std.specs.Prelude.{ℕ, zero, suc, ◌<◌, ◌+◌, ◌^◌, ◌==◌, nat_eq, nat_lt, Bool, true, false, not, ◌&&◌, ◌||◌, if◌then◌else◌, List, [], ◌∷◌, length, take, drop, find, take_while, Option, Some, None}
+-- Statement: the token or separator at the front of a source from a place on, a case for each rule
+-- of the format. Sources are lists of their bytes in UTF-8; only texts, comments and descriptions
+-- hold bytes past ASCII.
+use Rattle.std.specs.Prelude.{ℕ, zero, suc, ◌<◌, ◌+◌, ◌^◌, ◌==◌, nat_eq, nat_lt, Bool, true, false, not, ◌&&◌, ◌||◌, if◌then◌else◌, List, [], ◌∷◌, length, take, drop, find, take_while, Option, Some, None, is_some}
 use Rattle.std.specs.Char.{is_digit, is_ascii_alphanumeric}
 use Rattle.std.specs.List.{prefix_len, starts_with}
 use Rattle.std.specs.Str.{bytes_eq, IsCharBoundary}
@@ -118,6 +120,10 @@ begins_word (c ∷ s) = is_word_byte c
 
 abbrev pub reserved_of : List ℕ → Option Reserved
 reserved_of x = find (λ w. bytes_eq x (reserved_text w)) reserved_words
+
+-- a word of the language
+abbrev pub is_reserved : List ℕ → Bool
+is_reserved x = is_some (reserved_of x)
 
 -- a word of the language takes no digits behind it
 abbrev pub worded : Option Reserved → ℕ → List ℕ → Front

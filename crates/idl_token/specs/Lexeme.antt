@@ -1,5 +1,5 @@
--- Tokens as contracts speak of them.
-use Rattle.std.specs.Prelude.{ℕ, List, map}
+-- Statement: tokens as contracts speak of them.
+use Rattle.std.specs.Prelude.{◌≡◌, ℕ, List, [], ◌∷◌, ◌++◌, map}
 use Rattle.idl_token.specs.declared.kinds.TokenKind.{TokenKind}
 use Rattle.idl_token.specs.declared.tokens.Token.{Token}
 
@@ -17,3 +17,7 @@ lexeme_of t = lexeme t.kind t.text.now t.at
 
 abbrev pub lexemes : List Token → List Lexeme
 lexemes ts = map lexeme_of ts
+
+-- tokens with one more behind them
+abbrev pub Appends : List Token → List Token → Lexeme → Type 0
+Appends old new t = lexemes new ≡ lexemes old ++ t ∷ []

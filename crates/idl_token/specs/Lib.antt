@@ -4,3 +4,6 @@ pub mod Lexeme
 pub mod Front
 pub mod Rows
 pub mod Values
+pub mod Precedence
+pub mod Symbol
+pub mod Seen

@@ -1,5 +1,5 @@
--- What the texts of numbers, sized numbers and quoted texts stand for.
-use Rattle.std.specs.Prelude.{ℕ, ◌-◌, ◌==◌, Bool, false, ◌&&◌, if◌then◌else◌, List, [], ◌∷◌, length, take, drop}
+-- Statement: the values of the texts of numbers, sized numbers and quoted texts.
+use Rattle.std.specs.Prelude.{ℕ, ◌<◌, ◌^◌, ◌-◌, ◌==◌, nat_le, Bool, false, ◌&&◌, if◌then◌else◌, List, [], ◌∷◌, length, take, drop}
 use Rattle.std.specs.Char.{is_digit}
 use Rattle.std.specs.List.{before_first, after_first}
 use Rattle.std.specs.Str.Parse.{digits_value}
@@ -20,6 +20,10 @@ is_marked letter base s = begins 48 s && (begins letter (drop 1 s) && begins_dig
 -- `0x` before a hexadecimal digit, `0b` before a binary one, else decimal
 abbrev pub base_of : List ℕ → ℕ
 base_of s = if is_marked 120 16 s then 16 else (if is_marked 98 2 s then 2 else 10)
+
+-- digits whose number is below 2 ^ 128
+abbrev pub IsSmall : ℕ → List ℕ → Type 0
+IsSmall base digits = digits_value base digits < 2 ^ 128
 
 -- how many bytes say the base
 abbrev pub mark_of : ℕ → ℕ
@@ -71,6 +75,10 @@ sized_parts s = record {
   is_signed = begins 115 (after_first is_quote s);
   value = literal_value (past_signed (after_first is_quote s));
 }
+
+-- a number that may stand in a width, or before the quote of a sized number
+abbrev pub is_short : ℕ → Bool
+is_short n = nat_le n 65535
 
 -- ---- texts
 

@@ -1,4 +1,4 @@
--- Which sources are which rows of tokens.
+-- Statement: the token relation, which sources are which rows of tokens, and the error position.
 use Rattle.std.specs.Prelude.{◌≡◌, ℕ, ◌+◌, ◌<◌, ◌≤◌, List, [], ◌∷◌, length, take, drop, Result, Ok, Err}
 use Rattle.idl_token.specs.declared.kinds.TokenKind.{TokenKind}
 use Rattle.idl_token.specs.declared.before.Before.{Before}

@@ -1,4 +1,4 @@
--- How the words and signs of the language are spelled.
+-- Statement: the spelling of the words and signs of the language.
 use Rattle.std.specs.Prelude.{ℕ, List, [], ◌∷◌, codes}
 use Rattle.idl_token.specs.declared.kinds.Reserved.{Reserved}
 use Rattle.idl_token.specs.declared.kinds.Reserved.TheVariants as r

@@ -1,4 +1,4 @@
--- What the text of a token is, by its kind. The numbers in it are below 2 ^ 128.
+-- Statement: what the text of a token is, by its kind. The numbers in it are below 2 ^ 128.
 use Rattle.std.specs.Prelude.{◌≡◌, ℕ, ◌<◌, ◌^◌, true, false, None, List, [], ◌∷◌, ◌++◌}
 use Rattle.std.specs.List.{after_first, list_all}
 use Rattle.idl_token.specs.declared.kinds.TokenKind.{TokenKind}

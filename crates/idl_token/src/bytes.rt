@@ -5,7 +5,7 @@ ghost use Rattle.std.specs.Char.{digit_value};
 ghost use Rattle.std.specs.Option.{SomeIff};
 ghost use Rattle.std.specs.List.{prefix_len};
 ghost use Rattle.std.specs.Str.Parse.{digits_value};
-ghost use Rattle.idl_token.specs.Numbers.{begins, begins_digit, base_of, mark_of, letter_base, base_of_letter, is_marked};
+ghost use Rattle.idl_token.specs.Numbers.{IsSmall, begins, begins_digit, base_of, mark_of, letter_base, base_of_letter, is_marked};
 ghost use Rattle.idl_token.specs.Front.{is_number, is_word_byte, begins_word};
 
 /// What follows so many bytes; nothing past the end.
@@ -95,7 +95,7 @@ fn with_digit(value: u128, base: u8, digit: u8) -> Option<u128>
 /// The number that digits write, where it is below 2^128.
 pub fn digits_value(base: u8, digits: &[u8]) -> Option<u128>
     requires { 0 < base }
-    ensures { SomeIff result (digits_value base digits.now < 2 ^ 128) (digits_value base digits.now) }
+    ensures { SomeIff result (IsSmall base digits.now) (digits_value base digits.now) }
 {
     let mut value: u128 = 0;
     for digit in digits {
@@ -123,7 +123,7 @@ pub fn base_of(text: &[u8]) -> u8
     }
 }
 
-/// How many bytes say the base.
+/// How many bytes the mark of a base takes: 2 for `0x` and `0b`, none for decimal numbers.
 pub fn mark_of(base: u8) -> usize
     ensures { result ≡ mark_of base }
 {

@@ -1,7 +1,7 @@
 //! The kinds of tokens.
 
 /// A word of the language: a plain word of the same letters is this one.
-#[derive(Clone, Copy, Debug, PartialEq, Eq)]
+#[derive(Clone, Copy, PartialEq, Eq)]
 pub enum Reserved {
     Bits,
     Boolean,
@@ -38,7 +38,7 @@ pub enum Reserved {
 
 /// A word that holds a sign: `implemented?`, `implemented_version?`, `$signed`, `$resize`, `$bits`,
 /// `$pc` and `$encoding`.
-#[derive(Clone, Copy, Debug, PartialEq, Eq)]
+#[derive(Clone, Copy, PartialEq, Eq)]
 pub enum Special {
     Implemented,
     ImplementedVersion,
@@ -50,7 +50,7 @@ pub enum Special {
 }
 
 /// A sign. The wide ones begin with a backquote.
-#[derive(Clone, Copy, Debug, PartialEq, Eq)]
+#[derive(Clone, Copy, PartialEq, Eq)]
 pub enum Sign {
     /// `(`
     OpenParen,
@@ -133,7 +133,7 @@ pub enum Sign {
 }
 
 /// What a token is. Words, numbers and texts say more by the token's text.
-#[derive(Clone, Copy, Debug, PartialEq, Eq)]
+#[derive(Clone, Copy, PartialEq, Eq)]
 pub enum TokenKind {
     /// A word that is none of the language.
     Word,

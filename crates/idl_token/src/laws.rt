@@ -14,11 +14,16 @@ ghost use Rattle.idl_token.specs.Rows.{IsRow, IsBadAt};
 /// before that place is a row of tokens by itself. These are laws on the definitions, so they hold
 /// also where memory is short.
 pub fn one_reading()
-    ensures row { (source : List ℕ) (ts us : List Lexeme) → IsRow source ts → IsRow source us → ts ≡ us }
-    ensures place { (source : List ℕ) (at to : ℕ) → IsBadAt source at → IsBadAt source to → at ≡ to }
-    ensures apart { (source : List ℕ) (ts : List Lexeme) (at : ℕ) → IsRow source ts → IsBadAt source at → ⊥ }
-    ensures front { (source : List ℕ) (at : ℕ) → IsBadAt source at → (ts : List Lexeme) × IsRow (take at source) ts }
-    ensures either { (source : List ℕ) → ((ts : List Lexeme) × IsRow source ts) ⊎ ((at : ℕ) × IsBadAt source at) }
+    ensures row { (source : List ℕ) (ts us : List Lexeme)
+        → IsRow source ts → IsRow source us → ts ≡ us }
+    ensures place { (source : List ℕ) (at to : ℕ)
+        → IsBadAt source at → IsBadAt source to → at ≡ to }
+    ensures apart { (source : List ℕ) (ts : List Lexeme) (at : ℕ)
+        → IsRow source ts → IsBadAt source at → ⊥ }
+    ensures front { (source : List ℕ) (at : ℕ)
+        → IsBadAt source at → (ts : List Lexeme) × IsRow (take at source) ts }
+    ensures either { (source : List ℕ)
+        → ((ts : List Lexeme) × IsRow source ts) ⊎ ((at : ℕ) × IsBadAt source at) }
 {}
 
 /// Each word and sign is read as itself, and of the signs that stand in front the longest is taken.
@@ -26,7 +31,9 @@ pub fn own_spelling()
     ensures reserved { (w : Reserved) → reserved_of (reserved_text w) ≡ Some w }
     ensures special { (w : Special) → special_of (special_text w) ≡ Some w }
     ensures sign { (w : Sign) → sign_of (sign_text w) ≡ Some w }
-    ensures longest { (text : List ℕ) (g h : Sign) → sign_of text ≡ Some g → starts_with nat_eq text (sign_text h) ≡ true
+    ensures longest { (text : List ℕ) (g h : Sign)
+        → sign_of text ≡ Some g → starts_with nat_eq text (sign_text h) ≡ true
         → length (sign_text h) ≤ length (sign_text g) }
-    ensures none { (text : List ℕ) (h : Sign) → sign_of text ≡ None → starts_with nat_eq text (sign_text h) ≡ false }
+    ensures none { (text : List ℕ) (h : Sign)
+        → sign_of text ≡ None → starts_with nat_eq text (sign_text h) ≡ false }
 {}

@@ -1,7 +1,7 @@
 //! The tokens of a source.
 
 ghost use Rattle.std.specs.Prelude.{◌≡◌, ◌+◌, ◌-◌, ◌^◌, ◌<◌, [], ◌∷◌, ◌++◌, ℕ, List, length, All, IfOk, OnOk};
-ghost use Rattle.idl_token.specs.Lexeme.{Lexeme, lexeme, lexeme_of, lexemes};
+ghost use Rattle.idl_token.specs.Lexeme.{Lexeme, Appends, lexeme, lexeme_of, lexemes};
 ghost use Rattle.idl_token.specs.Rows.{IsRow, IsBadAt, IsSlice, PlacesRise, Answers, Faults};
 ghost use Rattle.idl_token.specs.Values.{IsSpelledToken};
 
@@ -18,7 +18,7 @@ fn push<'a>(
     text: &'a str,
     at: u32,
 ) -> Result<(), LexFault>
-    ensures ok { OnOk result (lexemes tokens.new.items ≡ lexemes tokens.old.items ++ lexeme kind text.now at ∷ []) }
+    ensures ok { OnOk result (Appends tokens.old.items tokens.new.items (lexeme kind text.now at)) }
     ensures memory { (at : ℕ) → result ≡ Err (LexFault.BadToken at) → ⊥ }
 {
     match tokens.push(Token { kind, text, at }) {
@@ -55,14 +55,18 @@ fn read<'a>(alloc: Global, source: &'a str) -> Result<Tokens<'a>, LexFault>
     Ok(tokens)
 }
 
-/// The tokens of a source, which are parts of it.
+/// The tokens of a source, which are parts of it, in the order of the source.
 ///
 /// Spaces, line feeds and comments from `#` to the end of the line separate tokens. Tokens may also
-/// stand side by side. `docs/formats/language.md` has the tokens.
+/// stand side by side, and the longest is taken. `docs/formats/language.md` has the tokens.
+///
+/// `BadToken` comes exactly where the source is no row of tokens, with the error position: the first
+/// byte, from 0, at which neither a token nor a separator begins. `Memory` says that there was none.
 pub fn lex<'a>(alloc: Global, source: &'a str) -> Result<Tokens<'a>, LexFault>
     requires { length source.now < 2 ^ 32 - 1 }
     ensures row { IfOk result (λ ts. IsRow source.now (lexemes ts.items)) }
-    ensures only { (ts : List Lexeme) → IsRow source.now ts → Answers (λ us. lexemes us.items) result ts }
+    ensures only { (ts : List Lexeme)
+        → IsRow source.now ts → Answers (λ us. lexemes us.items) result ts }
     ensures slices { IfOk result (λ ts. All (IsSlice source.now) (lexemes ts.items)) }
     ensures rise { IfOk result (λ ts. PlacesRise 0 (lexemes ts.items)) }
     ensures spelled { IfOk result (λ ts. All IsSpelledToken (lexemes ts.items)) }

@@ -3,7 +3,7 @@
 use crate::kinds::TokenKind;
 
 /// A token: its kind, the part of the source that it is, and the place of that part's first byte.
-#[derive(Clone, Copy, Debug, Drop)]
+#[derive(Clone, Copy, Drop)]
 pub struct Token<'a> {
     pub kind: TokenKind,
     pub text: &'a str,

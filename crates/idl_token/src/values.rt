@@ -1,14 +1,14 @@
-//! What the texts of numbers say.
+//! The values of the texts of numbers, sized numbers and quoted texts.
 
 ghost use Rattle.std.specs.Prelude.{◌≡◌, ◌<◌, ◌≤◌, ◌^◌, length, drop};
 ghost use Rattle.std.specs.List.{position_or_len, before_first, after_first};
-ghost use Rattle.idl_token.specs.Numbers.{number_value, sized_parts, is_quote, past_signed, literal_value, text_value};
+ghost use Rattle.idl_token.specs.Numbers.{number_value, sized_parts, is_quote, is_short, past_signed, literal_value, text_value};
 ghost use Rattle.idl_token.specs.Values.{IsLiteral, IsQuoted, literal_of};
 
 use crate::bytes::{base_of, begins, digits_value, letter_base, mark_of, past};
 
 /// The parts of the text of a sized number.
-#[derive(Clone, Copy, Debug, Drop)]
+#[derive(Clone, Copy, Drop)]
 pub struct SizedText<'a> {
     /// What stands before the quote: a number where it begins with a digit, else the name of a
     /// parameter.
@@ -19,7 +19,19 @@ pub struct SizedText<'a> {
     pub value: u128,
 }
 
-/// The number that the text of a number token writes.
+/// The greatest number that may stand in a width, or before the quote of a sized number.
+const GREATEST_SHORT: u128 = 65_535;
+
+/// Whether a number may stand in a width, or before the quote of a sized number: whether it is at
+/// most 65,535.
+pub fn is_short(number: u128) -> bool
+    ensures { result ≡ is_short number }
+{
+    number <= GREATEST_SHORT
+}
+
+/// The value of a number token's text, decimal, hexadecimal after `0x` or binary after `0b`. The
+/// text of any number token may be given: its value is below 2^128.
 #[tactic(auto, unfolding(crate::specs::Numbers::number_value))]
 pub fn number_value(text: &str) -> u128
     requires { number_value text.now < 2 ^ 128 }
@@ -58,7 +70,8 @@ fn literal_value(text: &[u8]) -> u128
     }
 }
 
-/// The parts of the text of a sized number.
+/// The parts of a sized number token's text. The value is as it is written, and not taken modulo
+/// two to the power of the width.
 #[tactic(auto, unfolding(crate::specs::Numbers::sized_parts))]
 pub fn sized(text: &str) -> SizedText<'_>
     requires { IsLiteral (literal_of text.now) }
@@ -75,7 +88,7 @@ pub fn sized(text: &str) -> SizedText<'_>
     }
 }
 
-/// What stands between the quotes of a text.
+/// The part of a text token between its quotes, which has no escapes.
 pub fn text_value(text: &str) -> &str
     requires { IsQuoted text.now }
     ensures { result.now ≡ text_value text.now }

@@ -4,7 +4,7 @@ ghost use Rattle.std.specs.Prelude.{◌≡◌, length, find, nat_eq};
 ghost use Rattle.std.specs.List.{starts_with};
 ghost use Rattle.std.specs.Str.{bytes_eq};
 ghost use Rattle.idl_token.specs.Spelling.{reserved_text, special_text, sign_text};
-ghost use Rattle.idl_token.specs.Front.{reserved_of, special_of, sign_of};
+ghost use Rattle.idl_token.specs.Front.{reserved_of, is_reserved, special_of, sign_of};
 
 use crate::kinds::{Reserved, Sign, Special};
 
@@ -252,6 +252,13 @@ pub fn reserved_of(word: &[u8]) -> Option<Reserved>
     ensures { result ≡ reserved_of word.now }
 {
     first_reserved(&RESERVED, word)
+}
+
+/// Whether a text is a word of the language, as `if` or `Bits`. Such a word names nothing.
+pub fn is_reserved(word: &str) -> bool
+    ensures { result ≡ is_reserved word.now }
+{
+    reserved_of(word.as_bytes()).is_some()
 }
 
 /// The word with a sign that stands in front.

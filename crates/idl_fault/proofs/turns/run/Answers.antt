@@ -1,6 +1,6 @@
 use Rattle.std.proofs.Common.{◌∙◌, ap, sym}
-use Rattle.idl_seen.specs.Seen.{symbols}
-use Rattle.idl_machine.specs.Machine as m
+use Rattle.idl_token.specs.Seen.{symbols}
+use Rattle.idl_fault.specs.Machine as m
 use Rattle.idl_fault.specs.Views.{item, stack_of, state_of, turn_of}
 use Rattle.idl_fault.proofs.Stacks.{stack_empty}
 use Rattle.idl_fault.proofs.Leading.{turn_leads, halts_leads, starts}

@@ -1,7 +1,7 @@
 use Rattle.std.proofs.Common.{false, [], ◌∷◌}
-use Rattle.idl_seen.specs.Seen.{symbols}
-use Rattle.idl_machine.specs.Machine as m
-use Rattle.idl_machine.proofs.Steps.{Leads}
+use Rattle.idl_token.specs.Seen.{symbols}
+use Rattle.idl_fault.specs.Machine as m
+use Rattle.idl_fault.proofs.Steps.{Leads}
 use Rattle.idl_fault.specs.Views.{item, state_of}
 use Rattle.idl_fault.proofs.turns.run.Given as goal
 

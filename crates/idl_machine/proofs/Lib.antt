@@ -1,9 +1,0 @@
-pub mod Steps
-pub mod Both
-pub mod Verdicts
-pub mod Widths
-pub mod Lists
-pub mod Tails
-pub mod Operands
-pub mod Stmts
-pub mod Functions
