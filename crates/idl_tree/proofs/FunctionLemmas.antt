@@ -8,6 +8,7 @@ use Rattle.idl_tree.specs.declared.programs.Argument.{Argument}
 use Rattle.idl_tree.specs.declared.programs.Body.{Body}
 use Rattle.idl_tree.specs.declared.programs.Function.{Function}
 use Rattle.idl_tree.specs.Print.{shape_text, commas, separator, margined, body_lines}
+use Rattle.idl_tree.proofs.Margins.{flat_map-take}
 use Rattle.idl_tree.specs.PrintFunctions.{argument_text, arguments_text, returns_lines, arguments_lines, block_lines, function_lines}
 
 pub argument-is : (a : Argument) → argument_text a ≡ shape_text a.shape ++ codes " " ++ a.name
@@ -47,11 +48,6 @@ pub ruleset arguments_forms = (arguments-none, arguments-some, append-nil)
 pub ruleset block_forms = (block-is, append_assoc)
 
 pub ruleset function_forms = (function-is, append_assoc)
-
-flat_map-take : {X A : Type 0} (f : X → List A) (xs : List X) (i : ℕ) (d : X) → i < length xs → flat_map f (take (suc i) xs) ≡ flat_map f (take i xs) ++ f (get_or xs i d)
-flat_map-take f [] i d lt = absurd (omega arith)
-flat_map-take f (x ∷ xs) zero d lt = append-nil (f x)
-flat_map-take f (x ∷ xs) (suc i) d lt = ap (λ ys. f x ++ ys) (flat_map-take f xs i d (omega arith)) ∙ sym (append_assoc (f x) (flat_map f (take i xs)) (f (get_or xs i d)))
 
 pub functions-more : (fs : List Function) (i : ℕ) (d : Function) → i < length fs → flat_map function_lines (take (i + 1) fs) ≡ flat_map function_lines (take i fs) ++ function_lines (get_or fs i d)
 functions-more fs i d lt = rw add-one (flat_map-take function_lines fs i d lt)

@@ -1,4 +1,3 @@
 pub mod FunctionLemmas
 pub mod Margins
-pub mod NodeLaws
 pub mod Printed

@@ -11,7 +11,8 @@ use Rattle.idl_tree.specs.declared.expressions.Expr.{Expr}
 use Rattle.idl_tree.specs.declared.statements.Target.{Target}
 use Rattle.idl_tree.specs.declared.statements.Stmt.{Stmt}
 use Rattle.idl_tree.specs.declared.statements.Stmt.TheVariants as s
-use Rattle.idl_tree.specs.Print.{Lines, margined, indented, enclosed, stmt_lines, separator, commas, expr_text, shape_text, target_text, call_text, for_text, if_text, text_of_lines}
+use Rattle.udb_base.specs.Lines.{Lines, text_of_lines}
+use Rattle.idl_tree.specs.Print.{margined, indented, enclosed, stmt_lines, separator, commas, expr_text, shape_text, target_text, call_text, for_text, if_text}
 use Rattle.idl_tree.proofs.Printed.{stmt_lines-Declare, stmt_lines-Assign, stmt_lines-Block, stmt_lines-Return, stmt_lines-If, stmt_lines-For, stmt_lines-Jump, stmt_lines-Raise, stmt_lines-WriteMemory, stmt_lines-SoftWrite, stmt_lines-Call}
 
 pub margined-append : (m : List ℕ) (xs ys : Lines) → margined m (xs ++ ys) ≡ margined m xs ++ margined m ys
@@ -45,55 +46,11 @@ pub lines_of : (ss : List Stmt) → flat_map (λ lines. lines) (map stmt_lines s
 lines_of [] = refl
 lines_of (x ∷ ss) = ap (λ ls. stmt_lines x ++ ls) (lines_of ss)
 
-margined-enclosed : (m first : List ℕ) (ss : List Stmt) (last : Lines) → margined m (enclosed first (map stmt_lines ss) last) ≡ (m ++ first) ∷ margined m (indented (flat_map stmt_lines ss)) ++ margined m last
-margined-enclosed m first ss last = rw (lines_of ss, margined-cons m first (indented (flat_map stmt_lines ss) ++ last), margined-append m (indented (flat_map stmt_lines ss)) last) refl
-
--- ---- the lines of a statement after a margin
-
-module _ (m : List ℕ) where
-  pub lines-Declare : (shape : Shape) (name : Name) (value : Expr) → margined m (stmt_lines (s.Declare shape name value)) ≡ (m ++ (shape_text shape ++ codes " " ++ name ++ codes " = " ++ expr_text value ++ codes ";")) ∷ []
-  lines-Declare shape name value = ap (margined m) (stmt_lines-Declare shape name value) ∙ margined-one m _
-
-  pub lines-Assign : (target : Target) (value : Expr) → margined m (stmt_lines (s.Assign target value)) ≡ (m ++ (target_text target ++ codes " = " ++ expr_text value ++ codes ";")) ∷ []
-  lines-Assign target value = ap (margined m) (stmt_lines-Assign target value) ∙ margined-one m _
-
-  pub lines-Block : (ss : List Stmt) → margined m (stmt_lines (s.Block ss)) ≡ (m ++ codes "{") ∷ margined m (indented (flat_map stmt_lines ss)) ++ (m ++ codes "}") ∷ []
-  lines-Block ss = ap (margined m) (stmt_lines-Block ss) ∙ margined-enclosed m (codes "{") ss (codes "}" ∷ []) ∙ ap (λ ls. (m ++ codes "{") ∷ margined m (indented (flat_map stmt_lines ss)) ++ ls) (margined-one m (codes "}"))
-
-  pub lines-Return : (value : Expr) → margined m (stmt_lines (s.Return value)) ≡ (m ++ (codes "return " ++ expr_text value ++ codes ";")) ∷ []
-  lines-Return value = ap (margined m) (stmt_lines-Return value) ∙ margined-one m _
-
-  pub lines-If_None : (test : Expr) (taken : List Stmt) → margined m (stmt_lines (s.If test taken None)) ≡ (m ++ if_text test) ∷ margined m (indented (flat_map stmt_lines taken)) ++ (m ++ codes "}") ∷ []
-  lines-If_None test taken = ap (margined m) (stmt_lines-If test taken None) ∙ margined-enclosed m (if_text test) taken (codes "}" ∷ []) ∙ ap (λ ls. (m ++ if_text test) ∷ margined m (indented (flat_map stmt_lines taken)) ++ ls) (margined-one m (codes "}"))
-
-  pub lines-If_Some : (test : Expr) (taken other : List Stmt) → margined m (stmt_lines (s.If test taken (Some other))) ≡ (m ++ if_text test) ∷ (margined m (indented (flat_map stmt_lines taken)) ++ ((m ++ codes "} else {") ∷ (margined m (indented (flat_map stmt_lines other)) ++ ((m ++ codes "}") ∷ []))))
-  lines-If_Some test taken other = ap (margined m) (stmt_lines-If test taken (Some other)) ∙ margined-enclosed m (if_text test) taken (enclosed (codes "} else {") (map stmt_lines other) (codes "}" ∷ [])) ∙ ap (λ ls. (m ++ if_text test) ∷ margined m (indented (flat_map stmt_lines taken)) ++ ls) (margined-enclosed m (codes "} else {") other (codes "}" ∷ []) ∙ ap (λ ls. (m ++ codes "} else {") ∷ (margined m (indented (flat_map stmt_lines other)) ++ ls)) (margined-one m (codes "}")))
-
-  pub lines-For : (name : Name) (from to : Width) (ss : List Stmt) → margined m (stmt_lines (s.For name from to ss)) ≡ (m ++ for_text name from to) ∷ margined m (indented (flat_map stmt_lines ss)) ++ (m ++ codes "}") ∷ []
-  lines-For name from to ss = ap (margined m) (stmt_lines-For name from to ss) ∙ margined-enclosed m (for_text name from to) ss (codes "}" ∷ []) ∙ ap (λ ls. (m ++ for_text name from to) ∷ margined m (indented (flat_map stmt_lines ss)) ++ ls) (margined-one m (codes "}"))
-
-  pub lines-Jump : (to : Expr) → margined m (stmt_lines (s.Jump to)) ≡ (m ++ (codes "jump(" ++ expr_text to ++ codes ");")) ∷ []
-  lines-Jump to = ap (margined m) (stmt_lines-Jump to) ∙ margined-one m _
-
-  pub lines-Raise : (code tval : Expr) → margined m (stmt_lines (s.Raise code tval)) ≡ (m ++ (codes "raise(" ++ expr_text code ++ codes ", mode(), " ++ expr_text tval ++ codes ");")) ∷ []
-  lines-Raise code tval = ap (margined m) (stmt_lines-Raise code tval) ∙ margined-one m _
-
-  pub lines-WriteMemory : (bits : ℕ) (at value : Expr) → margined m (stmt_lines (s.WriteMemory bits at value)) ≡ (m ++ (codes "write_memory<" ++ decimal bits ++ codes ">(" ++ expr_text at ++ codes ", " ++ expr_text value ++ codes ");")) ∷ []
-  lines-WriteMemory bits at value = ap (margined m) (stmt_lines-WriteMemory bits at value) ∙ margined-one m _
-
-  pub lines-SoftWrite : (address value : Expr) → margined m (stmt_lines (s.SoftWrite address value)) ≡ (m ++ (codes "CSR[" ++ expr_text address ++ codes "].sw_write(" ++ expr_text value ++ codes ");")) ∷ []
-  lines-SoftWrite address value = ap (margined m) (stmt_lines-SoftWrite address value) ∙ margined-one m _
-
-  pub lines-Call : (name : Name) (args : List Expr) → margined m (stmt_lines (s.Call name args)) ≡ (m ++ (call_text name (map expr_text args) ++ codes ";")) ∷ []
-  lines-Call name args = ap (margined m) (stmt_lines-Call name args) ∙ margined-one m _
-
-pub ruleset statement_lines = (lines-Declare, lines-Assign, lines-Block, lines-Return, lines-If_None, lines-If_Some, lines-For, lines-Jump, lines-Raise, lines-WriteMemory, lines-SoftWrite, lines-Call, append_assoc)
-
 pub ruleset margins = (margined-twice, margined-none, append_assoc)
 
 -- ---- one more part
 
-flat_map-take : {X A : Type 0} (f : X → List A) (xs : List X) (i : ℕ) (d : X) → i < length xs → flat_map f (take (suc i) xs) ≡ flat_map f (take i xs) ++ f (get_or xs i d)
+pub flat_map-take : {X A : Type 0} (f : X → List A) (xs : List X) (i : ℕ) (d : X) → i < length xs → flat_map f (take (suc i) xs) ≡ flat_map f (take i xs) ++ f (get_or xs i d)
 flat_map-take f [] i d lt = absurd (omega arith)
 flat_map-take f (x ∷ xs) zero d lt = append-nil (f x)
 flat_map-take f (x ∷ xs) (suc i) d lt = ap (λ ys. f x ++ ys) (flat_map-take f xs i d (omega arith)) ∙ sym (append_assoc (f x) (flat_map f (take i xs)) (f (get_or xs i d)))
@@ -102,9 +59,6 @@ pub statements_more : (m : List ℕ) (ss : List Stmt) (i : ℕ) (d : Stmt) → i
 statements_more m ss i d lt = rw (add-one, flat_map-take stmt_lines ss i d lt, margined-append m (flat_map stmt_lines (take i ss)) (stmt_lines (get_or ss i d))) refl
 
 pub ruleset more_statements = (margined-nil, append-nil, statements_more, append_assoc)
-
-pub text_more : (ls : Lines) (i : ℕ) (d : List ℕ) → i < length ls → text_of_lines (take (i + 1) ls) ≡ text_of_lines (take i ls) ++ (get_or ls i d ++ 10 ∷ [])
-text_more ls i d lt = rw (add-one) (flat_map-take (λ line. line ++ 10 ∷ []) ls i d lt)
 
 commas-rest : (es : List Expr) (i : ℕ) (d : Expr) → i < length es →
     flat_map (λ (y : List ℕ). codes ", " ++ y) (map expr_text (take (suc i) es)) ≡ flat_map (λ (y : List ℕ). codes ", " ++ y) (map expr_text (take i es)) ++ (codes ", " ++ expr_text (get_or es i d))

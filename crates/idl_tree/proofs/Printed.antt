@@ -20,7 +20,8 @@ use Rattle.idl_tree.specs.declared.statements.Stmt.TheOpen.{Stmt-F}
 use Rattle.idl_tree.specs.WidthLaws.{fold-Width-Number, fold-Width-Word, fold-Width-Plus, fold-Width-Minus, fold-Width-Times, fold-Width-Max, fold-Width-Bits}
 use Rattle.idl_tree.specs.ExprLaws.{fold-Expr-Number, fold-Expr-Sized, fold-Expr-Text, fold-Expr-Flag, fold-Expr-Word, fold-Expr-Member, fold-Expr-Unary, fold-Expr-Binary, fold-Expr-WideLeft, fold-Expr-Choice, fold-Expr-Join, fold-Expr-Repeat, fold-Expr-Index, fold-Expr-Slice, fold-Expr-Call, fold-Expr-Signed, fold-Expr-Resize, fold-Expr-Pc, fold-Expr-Encoding, fold-Expr-Register, fold-Expr-Field, fold-Expr-SoftRead, fold-Expr-ReadMemory, fold-Expr-NewField, fold-Expr-Mode, fold-Expr-Implemented, fold-Expr-ImplementedVersion}
 use Rattle.idl_tree.specs.StmtLaws.{fold-Stmt-Declare, fold-Stmt-Assign, fold-Stmt-Block, fold-Stmt-Return, fold-Stmt-If, fold-Stmt-For, fold-Stmt-Jump, fold-Stmt-Raise, fold-Stmt-WriteMemory, fold-Stmt-SoftWrite, fold-Stmt-Call}
-use Rattle.idl_tree.specs.Print.{Form, width_step, width_form, expr_step, expr_form, expr_text, Lines, lines_step, stmt_lines}
+use Rattle.udb_base.specs.Lines.{Lines}
+use Rattle.idl_tree.specs.Print.{Form, width_step, width_form, expr_step, expr_form, expr_text, lines_step, stmt_lines}
 
 pub width_form-Number : (n : ℕ) → width_form (w.Number n) ≡ width_step (Width-F.Number n)
 unfolding width_form

@@ -1,8 +1,8 @@
 pub mod Each
 pub mod ExprLaws
-pub mod StmtLaws
-pub mod WidthLaws
+pub mod Nodes
+pub mod Operands
 pub mod Print
 pub mod PrintFunctions
-pub mod Nodes
-pub mod Seeking
+pub mod StmtLaws
+pub mod WidthLaws

@@ -4,6 +4,8 @@ use Rattle.std.specs.Prelude.{ℕ, zero, suc, nat_le, Bool, true, false, if◌th
 use Rattle.std.specs.List.{flat_map, join_by}
 use Rattle.std.specs.Fmt.{decimal}
 use Rattle.udb_base.specs.declared.names.Name.{Name}
+use Rattle.udb_base.specs.declared.characters.Chars.{Chars}
+use Rattle.udb_base.specs.Lines.{Lines, text_of_lines}
 use Rattle.idl_tree.specs.declared.widths.Width.{Width}
 use Rattle.idl_tree.specs.declared.widths.Width.TheOpen.{Width-F}
 use Rattle.idl_tree.specs.declared.widths.Width.TheFolds.{fold-Width}
@@ -39,8 +41,8 @@ field_text csr field = codes "CSR[" ++ csr ++ codes "]." ++ field
 -- ---- widths: 1 is a product, 2 a sum, which groups to the left
 
 abbrev pub bits_text : Option Name → Name → List ℕ
-bits_text None name = name
-bits_text (Some csr) name = field_text csr name
+bits_text None name = codes "$bits(" ++ name ++ codes ")"
+bits_text (Some csr) name = codes "$bits(" ++ field_text csr name ++ codes ")"
 
 abbrev pub width_step : Width-F Form → Form
 width_step (Width-F.Number n) = (0, decimal n)
@@ -49,7 +51,7 @@ width_step (Width-F.Plus a b) = (2, within 2 a ++ codes "+" ++ within 1 b)
 width_step (Width-F.Minus a b) = (2, within 2 a ++ codes "-" ++ within 1 b)
 width_step (Width-F.Times a b) = (1, within 0 a ++ codes "*" ++ within 0 b)
 width_step (Width-F.Max a b) = (0, codes "max(" ++ a.1 ++ codes ", " ++ b.1 ++ codes ")")
-width_step (Width-F.Bits csr name) = (0, codes "$bits(" ++ bits_text csr name ++ codes ")")
+width_step (Width-F.Bits csr name) = (0, bits_text csr name)
 
 unfoldable pub width_form : Width → Form
 width_form = fold-Width Form width_step
@@ -115,6 +117,9 @@ abbrev pub quote_word : Bool → List ℕ
 quote_word true = codes "'sd"
 quote_word false = codes "'d"
 
+abbrev pub sized_text : Width → Bool → ℕ → List ℕ
+sized_text width signed value = within 0 (width_form width) ++ quote_word signed ++ decimal value
+
 abbrev pub member_text : EnumKind → Name → List ℕ
 member_text kind name = enum_word kind ++ codes "::" ++ name
 
@@ -130,9 +135,22 @@ separator (suc n) = codes ", "
 abbrev pub call_text : Name → List (List ℕ) → List ℕ
 call_text name args = name ++ codes "(" ++ commas args ++ codes ")"
 
+abbrev pub resize_word : Width → List ℕ
+resize_word width = codes "$resize<" ++ width_text width ++ codes ">("
+
+abbrev pub implemented_word : List ℕ
+implemented_word = codes "implemented?(ExtensionName::"
+
+abbrev pub version_word : List ℕ
+version_word = codes "implemented_version?(ExtensionName::"
+
+-- the second argument, and the end of the call
+abbrev pub version_text : Chars → List ℕ
+version_text text = codes ", \"" ++ text ++ codes "\")"
+
 abbrev pub expr_step : Expr-F Form → Form
 expr_step (Expr-F.Number n) = (0, decimal n)
-expr_step (Expr-F.Sized width signed value) = (0, within 0 (width_form width) ++ quote_word signed ++ decimal value)
+expr_step (Expr-F.Sized width signed value) = (0, sized_text width signed value)
 expr_step (Expr-F.Text text) = (0, codes "\"" ++ text ++ codes "\"")
 expr_step (Expr-F.Flag flag) = (0, flag_word flag)
 expr_step (Expr-F.Word name) = (0, name)
@@ -147,7 +165,7 @@ expr_step (Expr-F.Index a at) = (0, within 0 a ++ codes "[" ++ at.1 ++ codes "]"
 expr_step (Expr-F.Slice a high low) = (0, within 0 a ++ range_text high low)
 expr_step (Expr-F.Call name es) = (0, call_text name (map (λ e. e.1) es))
 expr_step (Expr-F.Signed a) = (0, codes "$signed(" ++ a.1 ++ codes ")")
-expr_step (Expr-F.Resize width a) = (0, codes "$resize<" ++ width_text width ++ codes ">(" ++ a.1 ++ codes ")")
+expr_step (Expr-F.Resize width a) = (0, resize_word width ++ a.1 ++ codes ")")
 expr_step Expr-F.Pc = (0, codes "$pc")
 expr_step Expr-F.Encoding = (0, codes "$encoding")
 expr_step (Expr-F.Register a) = (0, codes "X[" ++ a.1 ++ codes "]")
@@ -156,8 +174,8 @@ expr_step (Expr-F.SoftRead a) = (0, codes "CSR[" ++ a.1 ++ codes "].sw_read()")
 expr_step (Expr-F.ReadMemory bits at) = (0, codes "read_memory<" ++ decimal bits ++ codes ">(" ++ at.1 ++ codes ")")
 expr_step (Expr-F.NewField name) = (0, codes "csr_value." ++ name)
 expr_step Expr-F.Mode = (0, codes "mode()")
-expr_step (Expr-F.Implemented name) = (0, codes "implemented?(ExtensionName::" ++ name ++ codes ")")
-expr_step (Expr-F.ImplementedVersion extension text) = (0, codes "implemented_version?(ExtensionName::" ++ extension ++ codes ", \"" ++ text ++ codes "\")")
+expr_step (Expr-F.Implemented name) = (0, implemented_word ++ name ++ codes ")")
+expr_step (Expr-F.ImplementedVersion extension text) = (0, version_word ++ extension ++ codes ", \"" ++ text ++ codes "\")")
 
 unfoldable pub expr_form : Expr → Form
 expr_form = fold-Expr Form expr_step
@@ -180,9 +198,6 @@ for_text name from to = codes "for (U32 " ++ name ++ codes " = " ++ width_text f
 abbrev pub if_text : Expr → List ℕ
 if_text test = codes "if (" ++ expr_text test ++ codes ") {"
 
-abbrev pub Lines : Type 0
-Lines = List (List ℕ)
-
 -- each line after a margin
 unfoldable pub margined : List ℕ → Lines → Lines
 margined margin = map (λ line. margin ++ line)
@@ -199,28 +214,38 @@ abbrev pub else_lines : Option (List Lines) → Lines
 else_lines None = codes "}" ∷ []
 else_lines (Some block) = enclosed (codes "} else {") block (codes "}" ∷ [])
 
+-- the first line of a statement, which is its whole text where it has no block
+abbrev pub first_line : {A : Type 0} → Stmt-F A → List ℕ
+first_line (Stmt-F.Declare shape name value) = shape_text shape ++ codes " " ++ name ++ codes " = " ++ expr_text value ++ codes ";"
+first_line (Stmt-F.Assign target value) = target_text target ++ codes " = " ++ expr_text value ++ codes ";"
+first_line (Stmt-F.Block block) = codes "{"
+first_line (Stmt-F.Return value) = codes "return " ++ expr_text value ++ codes ";"
+first_line (Stmt-F.If test taken other) = if_text test
+first_line (Stmt-F.For name from to block) = for_text name from to
+first_line (Stmt-F.Jump to) = codes "jump(" ++ expr_text to ++ codes ");"
+first_line (Stmt-F.Raise cause tval) = codes "raise(" ++ expr_text cause ++ codes ", mode(), " ++ expr_text tval ++ codes ");"
+first_line (Stmt-F.WriteMemory bits at value) = codes "write_memory<" ++ decimal bits ++ codes ">(" ++ expr_text at ++ codes ", " ++ expr_text value ++ codes ");"
+first_line (Stmt-F.SoftWrite address value) = codes "CSR[" ++ expr_text address ++ codes "].sw_write(" ++ expr_text value ++ codes ");"
+first_line (Stmt-F.Call name args) = call_text name (map expr_text args) ++ codes ";"
+
+-- the lines of its blocks, each up to what closes it
+abbrev pub lines_after_first : Stmt-F Lines → Lines
+lines_after_first (Stmt-F.Block block) = indented (flat_map (λ lines. lines) block) ++ (codes "}" ∷ [])
+lines_after_first (Stmt-F.If test taken other) = indented (flat_map (λ lines. lines) taken) ++ else_lines other
+lines_after_first (Stmt-F.For name from to block) = indented (flat_map (λ lines. lines) block) ++ (codes "}" ∷ [])
+lines_after_first _ = []
+
 abbrev pub lines_step : Stmt-F Lines → Lines
-lines_step (Stmt-F.Declare shape name value) = (shape_text shape ++ codes " " ++ name ++ codes " = " ++ expr_text value ++ codes ";") ∷ []
-lines_step (Stmt-F.Assign target value) = (target_text target ++ codes " = " ++ expr_text value ++ codes ";") ∷ []
-lines_step (Stmt-F.Block block) = enclosed (codes "{") block (codes "}" ∷ [])
-lines_step (Stmt-F.Return value) = (codes "return " ++ expr_text value ++ codes ";") ∷ []
-lines_step (Stmt-F.If test taken other) = enclosed (if_text test) taken (else_lines other)
-lines_step (Stmt-F.For name from to block) = enclosed (for_text name from to) block (codes "}" ∷ [])
-lines_step (Stmt-F.Jump to) = (codes "jump(" ++ expr_text to ++ codes ");") ∷ []
-lines_step (Stmt-F.Raise code tval) = (codes "raise(" ++ expr_text code ++ codes ", mode(), " ++ expr_text tval ++ codes ");") ∷ []
-lines_step (Stmt-F.WriteMemory bits at value) = (codes "write_memory<" ++ decimal bits ++ codes ">(" ++ expr_text at ++ codes ", " ++ expr_text value ++ codes ");") ∷ []
-lines_step (Stmt-F.SoftWrite address value) = (codes "CSR[" ++ expr_text address ++ codes "].sw_write(" ++ expr_text value ++ codes ");") ∷ []
-lines_step (Stmt-F.Call name args) = (call_text name (map expr_text args) ++ codes ";") ∷ []
+lines_step layer = first_line layer ∷ lines_after_first layer
 
 unfoldable pub stmt_lines : Stmt → Lines
 stmt_lines = fold-Stmt Lines lines_step
 
-abbrev pub body_lines : Body → Lines
-body_lines body = flat_map stmt_lines body.statements
+abbrev pub lines_of_statements : List Stmt → Lines
+lines_of_statements = flat_map stmt_lines
 
--- lines, each ended by a line feed
-abbrev pub text_of_lines : Lines → List ℕ
-text_of_lines = flat_map (λ line. line ++ 10 ∷ [])
+abbrev pub body_lines : Body → Lines
+body_lines body = lines_of_statements body.statements
 
 abbrev pub body_text : Body → List ℕ
 body_text body = text_of_lines (body_lines body)

@@ -2,11 +2,13 @@
 -- body's lines two levels in.
 use Rattle.std.specs.Prelude.{ℕ, ◌==◌, List, [], ◌∷◌, ◌++◌, map, length, codes, Option, None, Some, if◌then◌else◌}
 use Rattle.std.specs.List.{flat_map}
+use Rattle.udb_base.specs.declared.names.Name.{Name}
 use Rattle.idl_tree.specs.declared.widths.Shape.{Shape}
 use Rattle.idl_tree.specs.declared.programs.Argument.{Argument}
 use Rattle.idl_tree.specs.declared.programs.Body.{Body}
 use Rattle.idl_tree.specs.declared.programs.Function.{Function}
-use Rattle.idl_tree.specs.Print.{Lines, shape_text, commas, margined, body_lines, text_of_lines}
+use Rattle.udb_base.specs.Lines.{Lines, text_of_lines}
+use Rattle.idl_tree.specs.Print.{shape_text, commas, margined, body_lines}
 
 unfoldable pub argument_text : Argument → List ℕ
 argument_text a = shape_text a.shape ++ codes " " ++ a.name
@@ -25,8 +27,11 @@ arguments_lines arguments = if length arguments == 0 then [] else (codes "  argu
 unfoldable pub block_lines : Body → Lines
 block_lines body = codes "  body {" ∷ margined (codes "    ") (body_lines body) ++ (codes "  }" ∷ codes "}" ∷ [])
 
+abbrev pub header_text : Name → List ℕ
+header_text name = codes "function " ++ name ++ codes " {"
+
 unfoldable pub function_lines : Function → Lines
-function_lines f = (codes "function " ++ f.name ++ codes " {") ∷ returns_lines f.result ++ (arguments_lines f.arguments ++ block_lines f.body)
+function_lines f = header_text f.name ∷ returns_lines f.result ++ (arguments_lines f.arguments ++ block_lines f.body)
 
 -- functions follow each other without empty lines
 abbrev pub functions_text : List Function → List ℕ

@@ -13,8 +13,8 @@ use Rattle.idl_tree.specs.declared.widths.Width.TheFolds.{fold-Width}
 use Rattle.idl_width.specs.declared.scopes.BitsOf.{BitsOf}
 
 -- the nearest number from -1,000,000 to 1,000,000
-abbrev pub clipped : ℤ → ℤ
-clipped z = int_max (negsuc 999999) (int_min z (pos 1000000))
+abbrev pub clip : ℤ → ℤ
+clip z = int_max (negsuc 999999) (int_min z (pos 1000000))
 
 -- in that range
 abbrev pub IsClipped : ℤ → Type 0
@@ -55,4 +55,4 @@ number_step space full scope (Width-F.Max a b) = larger a b
 number_step space full scope (Width-F.Bits csr name) = pos (bits_among (mxlen space full) scope csr name)
 
 unfoldable pub width_number : Space → Full → List BitsOf → Width → ℤ
-width_number space full scope = fold-Width ℤ (λ layer. clipped (number_step space full scope layer))
+width_number space full scope = fold-Width ℤ (λ layer. clip (number_step space full scope layer))

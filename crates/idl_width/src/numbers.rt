@@ -1,16 +1,16 @@
 //! The steps of a width's number, each clipped, and the number itself.
 
 ghost use Rattle.std.specs.Prelude.{◌≡◌, pos, ◌+ℤ◌, ◌-ℤ◌, ◌*ℤ◌};
-ghost use Rattle.idl_width.specs.Numbers.{clipped, IsClipped, larger, width_number};
+ghost use Rattle.idl_width.specs.Numbers.{clip, IsClipped, larger, width_number};
 
 use crate::scopes::{BitsScope, bits_among};
 use crate::values::{mxlen, number_or};
 use idl_tree::Width;
 use udb_base::{Full, Space};
 
-#[tactic(auto, using(crate::proofs::Steps::small_steps))]
-fn natural(number: u64) -> i64
-    ensures value { result ≡ clipped (pos number) }
+#[tactic(auto, using(crate::proofs::Clipping::small_steps))]
+fn clip(number: u64) -> i64
+    ensures value { result ≡ clip (pos number) }
     ensures small { IsClipped result }
 {
     if number > 1_000_000 {
@@ -22,7 +22,7 @@ fn natural(number: u64) -> i64
 fn sum(left: i64, right: i64) -> i64
     requires left { IsClipped left }
     requires right { IsClipped right }
-    ensures value { result ≡ clipped (left +ℤ right) }
+    ensures value { result ≡ clip (left +ℤ right) }
     ensures small { IsClipped result }
 {
     (left + right).clamp(-1_000_000, 1_000_000)
@@ -31,7 +31,7 @@ fn sum(left: i64, right: i64) -> i64
 fn difference(left: i64, right: i64) -> i64
     requires left { IsClipped left }
     requires right { IsClipped right }
-    ensures value { result ≡ clipped (left -ℤ right) }
+    ensures value { result ≡ clip (left -ℤ right) }
     ensures small { IsClipped result }
 {
     (left - right).clamp(-1_000_000, 1_000_000)
@@ -40,7 +40,7 @@ fn difference(left: i64, right: i64) -> i64
 fn product(left: i64, right: i64) -> i64
     requires left { IsClipped left }
     requires right { IsClipped right }
-    ensures value { result ≡ clipped (left *ℤ right) }
+    ensures value { result ≡ clip (left *ℤ right) }
     ensures small { IsClipped result }
 {
     (left * right).clamp(-1_000_000, 1_000_000)
@@ -48,7 +48,7 @@ fn product(left: i64, right: i64) -> i64
 
 #[tactic(auto, unfolding(crate::specs::Numbers::larger))]
 fn larger(left: i64, right: i64) -> i64
-    ensures value { result ≡ clipped (larger left right) }
+    ensures value { result ≡ clip (larger left right) }
     ensures small { IsClipped result }
 {
     left.max(right).clamp(-1_000_000, 1_000_000)
@@ -59,14 +59,14 @@ fn larger(left: i64, right: i64) -> i64
 /// its value, also where its `definedBy` fails; `$bits` counts with the width that the scope gives
 /// for the value of MXLEN. A width asks for names that the space and the scope have; one that they
 /// lack, or a parameter without a number, counts 0.
-#[tactic(auto, using(crate::proofs::Steps::number_laws))]
+#[tactic(auto, using(crate::proofs::Clipping::number_laws))]
 pub fn width_value(width: &Width, space: &Space, full: &Full, scope: &BitsScope) -> i64
     ensures value { result ≡ width_number space.now full.now scope.now width.now }
     ensures small { IsClipped result }
 {
     match width {
-        Width::Number(number) => natural(u64::from(*number)),
-        Width::Word(name) => natural(number_or(0, space, full, name.as_str())),
+        Width::Number(number) => clip(u64::from(*number)),
+        Width::Word(name) => clip(number_or(0, space, full, name.as_str())),
         Width::Plus(a, b) => {
             let left = width_value(a.get(), space, full, scope);
             sum(left, width_value(b.get(), space, full, scope))
@@ -85,7 +85,7 @@ pub fn width_value(width: &Width, space: &Space, full: &Full, scope: &BitsScope)
         }
         Width::Bits { csr, name } => {
             let registers = mxlen(space, full);
-            natural(u64::from(bits_among(registers, scope.as_slice(), csr, name)))
+            clip(u64::from(bits_among(registers, scope.as_slice(), csr, name)))
         }
     }
 }

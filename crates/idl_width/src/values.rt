@@ -13,7 +13,7 @@ fn has_name(param: &ParamSpace, name: &str) -> bool
     param.name.as_str() == name
 }
 
-#[tactic(auto, using(crate::proofs::Steps::value_steps))]
+#[tactic(auto, using(crate::proofs::Clipping::value_steps))]
 fn value_of<'a>(space: &Space, full: &'a Full, name: &str) -> Option<&'a Value>
     ensures { option_copied result ≡ value_of space.now full.now name.now }
 {
