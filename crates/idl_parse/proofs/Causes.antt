@@ -6,10 +6,10 @@ use Rattle.std.proofs.lemmas.Bool.{cases_lt}
 use Rattle.idl_token.specs.Lexeme.{Lexeme}
 use Rattle.idl_token.specs.Rows.{IsRow, IsBadAt}
 use Rattle.idl_token.proofs.RowLemmas.{row-unique, bad-unique, row-not-bad, row-or-bad}
-use Rattle.idl_grammar.specs.Symbol.{Symbol, symbols, symbol_of}
+use Rattle.idl_token.specs.Symbol.{Symbol, symbols, symbol_of}
 use Rattle.idl_grammar.specs.Faults.{Grammar, ReadsAs, ReadsWithin, GoesOn, GoesOnWithin, IsFirstFault}
 use Rattle.idl_grammar.proofs.Whole.{Exact, reads_one, read_within, fault_within, fault_free, deep_at_token}
-use Rattle.idl_machine.specs.Verdict.{left_at}
+use Rattle.idl_fault.specs.Verdict.{left_at}
 use Rattle.idl_parse.specs.declared.faults.ParseFault.{ParseFault}
 use Rattle.idl_parse.specs.declared.faults.ParseFault.TheVariants as fault
 use Rattle.idl_parse.specs.Parse.{Spells, place_of, IsUnexpectedAt, IsTooDeepAt, IsAnswer, Answers, Faults, IsOfTokens, Tells, place_before, fault_by}

@@ -3,7 +3,8 @@ use Rattle.std.proofs.Common.{◌≡◌, ◌≤◌, ℕ, List, arith}
 use Rattle.std.specs.List.{flat_map}
 use Rattle.idl_tree.specs.declared.statements.Stmt.{Stmt}
 use Rattle.idl_tree.specs.declared.programs.Function.{Function}
-use Rattle.idl_tree.specs.Print.{stmt_lines, text_of_lines}
+use Rattle.udb_base.specs.Lines.{text_of_lines}
+use Rattle.idl_tree.specs.Print.{stmt_lines}
 use Rattle.idl_tree.specs.PrintFunctions.{functions_text}
 use Rattle.idl_grammar.specs.Faults.{OfBody, OfFunctions}
 use Rattle.idl_back.proofs.PrintedStmts.{body_reads}

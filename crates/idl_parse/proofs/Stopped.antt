@@ -5,13 +5,13 @@ use Rattle.std.proofs.lemmas.List.{length-map}
 use Rattle.idl_token.specs.declared.tokens.Token.{Token}
 use Rattle.idl_token.specs.Lexeme.{lexeme_of, lexemes}
 use Rattle.idl_token.specs.Rows.{IsRow}
-use Rattle.idl_grammar.specs.Symbol.{Symbol, symbol_of}
-use Rattle.idl_grammar.specs.Symbol as grammar
+use Rattle.idl_token.specs.Symbol.{Symbol, symbol_of}
+use Rattle.idl_token.specs.Symbol as grammar
 use Rattle.idl_grammar.specs.Faults.{Grammar}
 use Rattle.idl_grammar.proofs.Whole.{Exact}
-use Rattle.idl_seen.specs.declared.views.Seen.{Seen}
-use Rattle.idl_seen.specs.Seen.{symbol, symbols}
-use Rattle.idl_machine.specs.Verdict.{left_at}
+use Rattle.idl_token.specs.declared.views.Seen.{Seen}
+use Rattle.idl_token.specs.Seen.{symbol, symbols}
+use Rattle.idl_fault.specs.Verdict.{left_at}
 use Rattle.idl_parse.specs.declared.faults.ParseFault.{ParseFault}
 use Rattle.idl_parse.specs.declared.faults.Halt.{Halt}
 use Rattle.idl_parse.specs.declared.faults.Halt.TheVariants as halt

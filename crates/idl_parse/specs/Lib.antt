@@ -1,11 +1,2 @@
-pub mod Branching
-pub mod ForPieces
-pub mod Gives
-pub mod Grouped
-pub mod Inside
-pub mod Pieces
 pub mod Parse
-pub mod StmtPieces
-pub mod WritePieces
-pub mod ExprPieces
-pub mod Steps
+pub mod Statements

@@ -5,8 +5,11 @@ use Rattle.idl_token.specs.declared.tokens.LexFault.{LexFault}
 use Rattle.idl_token.specs.declared.tokens.LexFault.TheVariants as lexing
 use Rattle.idl_token.specs.Lexeme.{Lexeme}
 use Rattle.idl_token.specs.Rows.{IsRow, IsBadAt}
-use Rattle.idl_grammar.specs.Symbol.{Symbol, symbols}
+use Rattle.idl_token.specs.Symbol.{Symbol, symbols}
+use Rattle.idl_grammar.specs.Outcome.{Outcome, all_of}
 use Rattle.idl_grammar.specs.Faults.{Grammar, ReadsAs, ReadsWithin, GoesOn, GoesOnWithin, IsFirstFault}
+use Rattle.idl_exprs.specs.Gives.{Gives, pair}
+use Rattle.idl_exprs.specs.declared.stop.Stop.{Stop}
 use Rattle.idl_parse.specs.declared.faults.ParseFault.{ParseFault}
 use Rattle.idl_parse.specs.declared.faults.ParseFault.TheVariants as fault
 use Rattle.idl_parse.specs.declared.faults.Halt.{Halt}
@@ -72,6 +75,48 @@ IsOfTokens (Err fault.Memory) = Unit {0}
 IsOfTokens (Err (fault.BadToken at)) = Unit {0}
 IsOfTokens (Err e) = ⊥
 
+-- ---- clauses of the calls on sources, for a view of what they answer
+
+-- whatever the source spells is the answer
+abbrev pub ReadsOnly : {T A : Type 0} → (T → A) → Grammar A → ℕ → List ℕ → Result T ParseFault → Type 0
+ReadsOnly {A = A} view R n source result = (x : A) → Spells R n source x → Answers view result x
+
+-- whatever row of tokens the source is, it is the answer
+abbrev pub LexesOnly : {T : Type 0} → (T → List Lexeme) → List ℕ → Result T ParseFault → Type 0
+LexesOnly view source result = (ts : List Lexeme) → IsRow source ts → Answers view result ts
+
+abbrev pub BadOnly : {T : Type 0} → List ℕ → Result T ParseFault → Type 0
+BadOnly source result = (at : ℕ) → IsBadAt source at → Faults result (fault.BadToken at)
+
+abbrev pub Unexpected : {T A : Type 0} → Grammar A → List ℕ → Result T ParseFault → Type 0
+Unexpected R source result = (at : ℕ) → result ≡ Err (fault.Unexpected at) → IsUnexpectedAt R source at
+
+abbrev pub UnexpectedOnly : {T A : Type 0} → Grammar A → List ℕ → Result T ParseFault → Type 0
+UnexpectedOnly R source result = (at : ℕ) → IsUnexpectedAt R source at → Faults result (fault.Unexpected at)
+
+abbrev pub TooDeep : {T A : Type 0} → Grammar A → ℕ → List ℕ → Result T ParseFault → Type 0
+TooDeep R n source result = (at : ℕ) → result ≡ Err (fault.TooDeep at) → IsTooDeepAt R n source at
+
+abbrev pub TooDeepOnly : {T A : Type 0} → Grammar A → ℕ → List ℕ → Result T ParseFault → Type 0
+TooDeepOnly R n source result = (at : ℕ) → IsTooDeepAt R n source at → Faults result (fault.TooDeep at)
+
+-- ---- laws of a grammar
+
+-- a source spells at most one tree, whatever the limits
+abbrev pub SpellsOne : {A : Type 0} → Grammar A → Type 0
+SpellsOne {A} R = (n m : ℕ) (source : List ℕ) (x y : A) → Spells R n source x → Spells R m source y → x ≡ y
+
+-- a source has at most one answer, and at least one
+abbrev pub AnswersOne : {A : Type 0} → Grammar A → Type 0
+AnswersOne {A} R = (n : ℕ) (source : List ℕ) (r q : Result A ParseFault) → IsAnswer R n source r → IsAnswer R n source q → r ≡ q
+
+abbrev pub AnswersSome : {A : Type 0} → Grammar A → Type 0
+AnswersSome {A} R = (n : ℕ) (source : List ℕ) → (r : Result A ParseFault) × IsAnswer R n source r
+
+-- the text of what a source spells is a source that spells it too
+abbrev pub ReadsBack : {A : Type 0} → Grammar A → (A → List ℕ) → Type 0
+ReadsBack {A} R text = (n : ℕ) (source : List ℕ) (x : A) → Spells R n source x → Spells R n (text x) x
+
 -- ---- for private functions
 
 -- what an answer says of the source, with nothing of want of memory
@@ -92,6 +137,10 @@ abbrev pub Comes : {A : Type 0} → Result (A × ℕ) (List Symbol) → Result A
 Comes read (Ok x) = (h : ℕ) × (read ≡ Ok (x, h))
 Comes read (Err halt.Memory) = Unit {0}
 Comes read (Err (halt.Left k)) = (rest : List Symbol) × (read ≡ Err rest) × (k ≡ length rest)
+
+-- the same of a reader that left so many tokens
+abbrev pub Completes : {A : Type 0} → Result (A × ℕ) Stop → List Symbol → Result A Halt → Type 0
+Completes {A} read rest result = (q : Outcome (A × ℕ)) → Gives pair q read rest → Comes (all_of q) result
 
 -- the place of the token with which so many are left
 abbrev pub place_before : List ℕ → List Lexeme → ℕ → ℕ

@@ -1,45 +1,26 @@
 //! Functions.
 
-ghost use Rattle.std.specs.Prelude.{◌≡◌, IfOk};
+ghost use Rattle.std.specs.Prelude.{◌≡◌};
+ghost use Rattle.idl_grammar.specs.Outcome as o;
 ghost use Rattle.idl_grammar.specs.StmtReader as spec;
-ghost use Rattle.idl_seen.specs.Seen.{symbols};
-ghost use Rattle.idl_parse.specs.Gives.{Gives};
-ghost use Rattle.idl_parse.specs.Grouped as grouped;
-ghost use Rattle.idl_parse.specs.StmtPieces as piece;
+ghost use Rattle.idl_exprs.specs.Gives.{Reads, pair};
+ghost use Rattle.idl_parse.specs.Statements.{close, about_text, function_body};
 
-use crate::cursor::{Cursor, expect, expect_reserved, name};
 use crate::stmts::stmts;
-use crate::stop::Stop;
-use crate::types::shape;
-use idl_seen::Seen;
-use idl_token::{Reserved, Sign};
-use idl_tree::{Argument, Arguments, Body, Function, Functions, Many, Name, Shape, Stmts};
+use crate::types::{name, shape};
+use idl_exprs::{Cursor, Stop, expect, expect_reserved, keep, only, with, word};
+use idl_token::{Reserved, Seen, Sign};
+use idl_tree::{Argument, Arguments, Body, Function, Functions, Many, Name, Shape};
 use std::alloc::Global;
 
-fn function_of(
-    alloc: Global,
-    name: Name,
-    gives: Option<Shape>,
-    arguments: Arguments,
-    statements: Stmts,
-) -> Function
-    ensures { result ≡ piece.function_of name gives arguments statements }
-{
-    Function {
-        name,
-        result: gives,
-        arguments,
-        body: Body {
-            variables: Many::new(alloc),
-            statements,
-        },
-    }
-}
-
-// The type of a function's result, where there is one.
+// result ::= [ 'returns' shape ]
 #[tactic(auto, unfolding(idl_grammar::specs::StmtReader::result))]
-fn gives(alloc: Global, tokens: &mut Cursor<'_>, depth: u32) -> Result<(Option<Shape>, u64), Stop>
-    ensures { Gives (λ x. (x.0, x.1)) (spec.result depth (symbols tokens.old.rest.now)) result (symbols tokens.new.rest.now) }
+fn result_type(
+    alloc: Global,
+    tokens: &mut Cursor<'_>,
+    depth: u32,
+) -> Result<(Option<Shape>, u64), Stop>
+    ensures { Reads pair (spec.result depth) tokens.old result tokens.new }
 {
     if !tokens.sees_reserved(Reserved::Returns) {
         return Ok((None, 0));
@@ -49,65 +30,58 @@ fn gives(alloc: Global, tokens: &mut Cursor<'_>, depth: u32) -> Result<(Option<S
     Ok((Some(found), nesting))
 }
 
+// argument ::= shape word
 #[tactic(auto, unfolding(idl_grammar::specs::StmtReader::argument))]
 fn argument(alloc: Global, tokens: &mut Cursor<'_>, depth: u32) -> Result<(Argument, u64), Stop>
-    ensures { Gives (λ x. (x.0, x.1)) (spec.argument depth (symbols tokens.old.rest.now)) result (symbols tokens.new.rest.now) }
+    ensures { Reads pair (spec.argument depth) tokens.old result tokens.new }
 {
     let (shape, nesting) = shape(alloc, tokens, depth)?;
-    let name = name(alloc, tokens)?;
+    let (shape, name) = keep(shape, name(alloc, tokens))?;
     Ok((Argument { shape, name }, nesting))
 }
 
-fn arguments(alloc: Global, tokens: &mut Cursor<'_>, depth: u32) -> Result<(Arguments, u64), Stop>
-    ensures { Gives (λ x. (x.0, x.1)) (piece.arguments depth (symbols tokens.old.rest.now)) result (symbols tokens.new.rest.now) }
-{
-    let mut found = Many::new(alloc);
-    let (first, high) = argument(alloc, tokens, depth)?;
-    found.push(first)?;
-    more_arguments(alloc, tokens, depth, found, high)
-}
-
-// The arguments behind those that were found.
-fn more_arguments(
+// argument { ',' argument }
+fn argument_list(
     alloc: Global,
     tokens: &mut Cursor<'_>,
     depth: u32,
-    first: Arguments,
-    low: u64,
 ) -> Result<(Arguments, u64), Stop>
-    ensures { Gives (λ x. (x.0, x.1)) (piece.more_arguments depth first low (symbols tokens.old.rest.now)) result (symbols tokens.new.rest.now) }
+    ensures { Reads pair (o.commas (spec.argument depth)) tokens.old result tokens.new }
 {
-    let mut found = first;
+    let (first, low) = argument(alloc, tokens, depth)?;
+    let mut found = only(alloc, first)?;
     let mut nesting = low;
     'rows: while tokens.sees(Sign::Comma) {
         tokens.skip();
-        let (next, high) = argument(alloc, tokens, depth)?;
-        found.push(next)?;
+        let (all, (next, high)) = keep(found, argument(alloc, tokens, depth))?;
+        found = with(all, next)?;
         nesting = nesting.max(high);
     }
     Ok((found, nesting))
 }
 
+// arguments ::= [ 'arguments' argument_list ]
 #[tactic(auto, unfolding(idl_grammar::specs::StmtReader::taken))]
-fn taken(alloc: Global, tokens: &mut Cursor<'_>, depth: u32) -> Result<(Arguments, u64), Stop>
-    ensures { Gives (λ x. (x.0, x.1)) (spec.taken depth (symbols tokens.old.rest.now)) result (symbols tokens.new.rest.now) }
+fn arguments(alloc: Global, tokens: &mut Cursor<'_>, depth: u32) -> Result<(Arguments, u64), Stop>
+    ensures { Reads pair (spec.taken depth) tokens.old result tokens.new }
 {
     if !tokens.sees_reserved(Reserved::Arguments) {
         return Ok((Many::new(alloc), 0));
     }
     tokens.skip();
-    arguments(alloc, tokens, depth)
+    argument_list(alloc, tokens, depth)
 }
 
 fn close(tokens: &mut Cursor<'_>) -> Result<(), Stop>
-    ensures { Gives (λ _. tt) (grouped.close (symbols tokens.old.rest.now)) result (symbols tokens.new.rest.now) }
+    ensures { Reads (λ _. tt) close tokens.old result tokens.new }
 {
     expect(tokens, Sign::CloseBrace)?;
     Ok(())
 }
 
-fn about_text(tokens: &mut Cursor<'_>) -> Result<(), Stop>
-    ensures { Gives (λ _. tt) (piece.about_text (symbols tokens.old.rest.now)) result (symbols tokens.new.rest.now) }
+// [ description ] '}'
+fn description_text(tokens: &mut Cursor<'_>) -> Result<(), Stop>
+    ensures { Reads (λ _. tt) about_text tokens.old result tokens.new }
 {
     match tokens.peek() {
         Some(Seen::Described) => {
@@ -118,75 +92,80 @@ fn about_text(tokens: &mut Cursor<'_>) -> Result<(), Stop>
     }
 }
 
-// A description, which leaves nothing.
+// description ::= [ 'description' '{' description_text ], which leaves nothing
 #[tactic(auto, unfolding(idl_grammar::specs::StmtReader::about))]
-fn about(tokens: &mut Cursor<'_>) -> Result<(), Stop>
-    ensures { Gives (λ _. tt) (spec.about (symbols tokens.old.rest.now)) result (symbols tokens.new.rest.now) }
+fn description(tokens: &mut Cursor<'_>) -> Result<(), Stop>
+    ensures { Reads (λ _. tt) spec.about tokens.old result tokens.new }
 {
     if !tokens.sees_reserved(Reserved::Description) {
         return Ok(());
     }
     tokens.skip();
     expect(tokens, Sign::OpenBrace)?;
-    about_text(tokens)
+    description_text(tokens)
 }
 
-// The head of a function with its name, up to its brace.
-fn start(alloc: Global, tokens: &mut Cursor<'_>) -> Result<Name, Stop>
-    ensures { Gives (λ x. x) (grouped.start (symbols tokens.old.rest.now)) result (symbols tokens.new.rest.now) }
+// function_body ::= 'body' '{' stmts '}' '}', after what stands before it, with its nesting
+fn function_body(
+    alloc: Global,
+    tokens: &mut Cursor<'_>,
+    depth: u32,
+    name: &str,
+    gives: (Option<Shape>, u64),
+    taken: (Arguments, u64),
+) -> Result<(Function, u64), Stop>
+    ensures { Reads pair (function_body depth name.now gives taken) tokens.old result tokens.new }
+{
+    let head = (gives, taken);
+    let (head, _) = keep(head, expect_reserved(tokens, Reserved::Body))?;
+    let (head, _) = keep(head, expect(tokens, Sign::OpenBrace))?;
+    let (head, (statements, inner)) = keep(head, stmts(alloc, tokens, depth))?;
+    let (parts, _) = keep((head, statements), expect(tokens, Sign::CloseBrace))?;
+    let (parts, _) = keep(parts, expect(tokens, Sign::CloseBrace))?;
+    let ((head, statements), name) = keep(parts, Name::of(alloc, name))?;
+    let variables = Many::new(alloc);
+    let body = Body {
+        variables,
+        statements,
+    };
+    let ((result, high), (arguments, low)) = head;
+    let found = Function {
+        name,
+        result,
+        arguments,
+        body,
+    };
+    Ok((found, high.max(low.max(inner))))
+}
+
+// function ::= 'function' word '{' result arguments description function_body
+#[tactic(auto, unfolding(idl_grammar::specs::StmtReader::function))]
+fn function(alloc: Global, tokens: &mut Cursor<'_>, depth: u32) -> Result<(Function, u64), Stop>
+    ensures { Reads pair (spec.function depth) tokens.old result tokens.new }
 {
     expect_reserved(tokens, Reserved::Function)?;
-    let name = name(alloc, tokens)?;
+    let name = word(tokens)?;
     expect(tokens, Sign::OpenBrace)?;
-    Ok(name)
-}
-
-// The statements of a function, with the brace that closes it.
-fn body(alloc: Global, tokens: &mut Cursor<'_>, depth: u32) -> Result<(Stmts, u64), Stop>
-    ensures { Gives (λ x. (x.0, x.1)) (grouped.body depth (symbols tokens.old.rest.now)) result (symbols tokens.new.rest.now) }
-{
-    expect_reserved(tokens, Reserved::Body)?;
-    expect(tokens, Sign::OpenBrace)?;
-    let (found, nesting) = stmts(alloc, tokens, depth)?;
-    expect(tokens, Sign::CloseBrace)?;
-    expect(tokens, Sign::CloseBrace)?;
-    Ok((found, nesting))
-}
-
-fn rest(alloc: Global, tokens: &mut Cursor<'_>, depth: u32) -> Result<(Arguments, Stmts, u64), Stop>
-    ensures { Gives (λ x. (x.0, x.1, x.2)) (grouped.rest depth (symbols tokens.old.rest.now)) result (symbols tokens.new.rest.now) }
-{
-    let (found, high) = taken(alloc, tokens, depth)?;
-    about(tokens)?;
-    let (statements, nesting) = body(alloc, tokens, depth)?;
-    Ok((found, statements, high.max(nesting)))
-}
-
-fn function(alloc: Global, tokens: &mut Cursor<'_>, depth: u32) -> Result<(Function, u64), Stop>
-    ensures { Gives (λ x. (x.0, x.1)) (grouped.function depth (symbols tokens.old.rest.now)) result (symbols tokens.new.rest.now) }
-{
-    let name = start(alloc, tokens)?;
-    let (found, high) = gives(alloc, tokens, depth)?;
-    let (arguments, statements, nesting) = rest(alloc, tokens, depth)?;
-    Ok((
-        function_of(alloc, name, found, arguments, statements),
-        high.max(nesting),
-    ))
+    let gives = result_type(alloc, tokens, depth)?;
+    let (gives, taken) = keep(gives, arguments(alloc, tokens, depth))?;
+    let ((gives, taken), _) = keep((gives, taken), description(tokens))?;
+    function_body(alloc, tokens, depth, name, gives, taken)
 }
 
 /// Functions, with bodies of nesting at most `depth`, for as long as one begins.
+#[tactic(auto, unfolding(idl_grammar::specs::StmtReader::functions))]
 pub fn functions(
     alloc: Global,
     tokens: &mut Cursor<'_>,
     depth: u32,
 ) -> Result<(Functions, u64), Stop>
-    ensures { Gives (λ x. (x.0, x.1)) (spec.functions depth (symbols tokens.old.rest.now)) result (symbols tokens.new.rest.now) }
+    ensures { Reads pair (spec.functions depth) tokens.old result tokens.new }
 {
     let mut found = Many::new(alloc);
     let mut nesting: u64 = 0;
     'rows: while tokens.sees_reserved(Reserved::Function) {
-        let (next, high) = function(alloc, tokens, depth)?;
-        found.push(next)?;
+        let (all, (next, high)) = keep(found, function(alloc, tokens, depth))?;
+        found = with(all, next)?;
         nesting = nesting.max(high);
     }
     Ok((found, nesting))

@@ -1,10 +1,10 @@
 //! The tokens of a source, with the faults of this crate.
 
-ghost use Rattle.std.specs.Prelude.{◌≡◌, ◌-◌, ◌^◌, ◌<◌, ℕ, List, length, All, IfOk};
-ghost use Rattle.idl_token.specs.Lexeme.{Lexeme, lexemes};
+ghost use Rattle.std.specs.Prelude.{◌≡◌, ◌-◌, ◌^◌, ◌<◌, ℕ, length, All, IfOk};
+ghost use Rattle.idl_token.specs.Lexeme.{lexemes};
 ghost use Rattle.idl_token.specs.Rows.{IsRow, IsBadAt, IsSlice, PlacesRise};
 ghost use Rattle.idl_token.specs.Values.{IsSpelledToken};
-ghost use Rattle.idl_parse.specs.Parse.{Answers, Faults, IsOfTokens, of_lexer};
+ghost use Rattle.idl_parse.specs.Parse.{LexesOnly, BadOnly, IsOfTokens, of_lexer};
 
 use crate::faults::ParseFault;
 use idl_token::{LexFault, Tokens};
@@ -26,12 +26,12 @@ fn of_lexer(fault: LexFault) -> ParseFault
 pub fn lex<'a>(alloc: Global, source: &'a str) -> Result<Tokens<'a>, ParseFault>
     requires { length source.now < 2 ^ 32 - 1 }
     ensures row { IfOk result (λ ts. IsRow source.now (lexemes ts.items)) }
-    ensures only { (ts : List Lexeme) → IsRow source.now ts → Answers (λ us. lexemes us.items) result ts }
+    ensures only { LexesOnly (λ us. lexemes us.items) source.now result }
     ensures slices { IfOk result (λ ts. All (IsSlice source.now) (lexemes ts.items)) }
     ensures rise { IfOk result (λ ts. PlacesRise 0 (lexemes ts.items)) }
     ensures spelled { IfOk result (λ ts. All IsSpelledToken (lexemes ts.items)) }
     ensures bad { (at : ℕ) → result ≡ Err (ParseFault.BadToken at) → IsBadAt source.now at }
-    ensures bad_only { (at : ℕ) → IsBadAt source.now at → Faults result (ParseFault.BadToken at) }
+    ensures bad_only { BadOnly source.now result }
     ensures of_tokens { IsOfTokens result }
 {
     match idl_token::lex(alloc, source) {

@@ -1,29 +1,15 @@
 //! Bodies and functions of the language, read exactly.
 #![tactic(auto)]
 
-mod assigning;
-mod atoms;
-mod behind;
-mod closing;
-mod cursor;
-mod exprs;
 mod faults;
-mod filling;
 mod functions;
-mod headers;
 mod laws;
 mod lexing;
-mod literals;
 mod parse;
-mod plain;
-mod progress;
-mod readings;
-mod signs;
+mod simple;
 mod stmts;
-mod stop;
-mod trees;
 mod types;
-mod widths;
+mod writes;
 
 pub use faults::ParseFault;
 pub use idl_token::{Reserved, Sign, Special, Token, TokenKind, Tokens};

@@ -1,26 +1,20 @@
 //! Bodies and functions, read from their source.
 
 ghost use Rattle.std.specs.Prelude.{◌≡◌, ◌-◌, ◌^◌, ◌<◌, ◌≤◌, ℕ, List, [], length, IfOk, IfSome, Err};
-ghost use Rattle.idl_tree.specs.declared.statements.Stmt.{Stmt};
-ghost use Rattle.idl_tree.specs.declared.programs.Function.{Function};
 ghost use Rattle.idl_token.specs.Lexeme.{lexemes};
 ghost use Rattle.idl_token.specs.Rows.{IsBadAt};
-ghost use Rattle.idl_grammar.specs.Outcome.{Outcome, all_of};
 ghost use Rattle.idl_grammar.specs.StmtReader.{whole_body, whole_functions};
 ghost use Rattle.idl_grammar.specs.Faults.{OfBody, OfFunctions};
-ghost use Rattle.idl_seen.specs.Seen.{symbols};
-ghost use Rattle.idl_parse.specs.Gives.{Gives};
-ghost use Rattle.idl_parse.specs.Parse.{Spells, IsUnexpectedAt, IsTooDeepAt, Answers, Faults, Tells, Comes, place_before, fault_by};
+ghost use Rattle.idl_token.specs.Seen.{symbols};
+ghost use Rattle.idl_parse.specs.Parse.{Spells, ReadsOnly, Unexpected, UnexpectedOnly, TooDeep, TooDeepOnly, BadOnly, Tells, Comes, Completes, place_before, fault_by};
 
-use crate::cursor::Cursor;
 use crate::faults::{Halt, ParseFault};
 use crate::functions::functions;
 use crate::lexing::lex;
 use crate::stmts::stmts;
-use crate::stop::Stop;
+use idl_exprs::{Cursor, Stop};
 use idl_fault::{body_stop, functions_stop};
-use idl_seen::{Seen, see};
-use idl_token::Token;
+use idl_token::{Seen, Token, see};
 use idl_tree::{Body, Functions, Many, Stmts};
 use std::alloc::Global;
 
@@ -61,8 +55,8 @@ fn fault(source: &str, tokens: &[Token<'_>], free: Option<usize>, left: usize) -
 }
 
 // What was read, where no token is left behind it; else how many are left from the fault on.
-fn ended<T: Drop>(read: Result<(T, u64), Stop>, rest: &[Seen<'_>]) -> Result<T, Halt>
-    ensures { (q : Outcome (T × ℕ)) → Gives (λ x. (x.0, x.1)) q read (symbols rest.now) → Comes (all_of q) result }
+fn complete<T: Drop>(read: Result<(T, u64), Stop>, rest: &[Seen<'_>]) -> Result<T, Halt>
+    ensures { Completes read (symbols rest.now) result }
 {
     match read {
         Ok((found, _)) => {
@@ -83,7 +77,7 @@ fn whole_body(alloc: Global, tokens: &[Seen<'_>], limit: u32) -> Result<Stmts, H
 {
     let mut cursor = Cursor { rest: tokens };
     let read = stmts(alloc, &mut cursor, limit);
-    ended(read, cursor.rest)
+    complete(read, cursor.rest)
 }
 
 #[tactic(auto, unfolding(idl_grammar::specs::StmtReader::whole_functions))]
@@ -92,7 +86,7 @@ fn whole_functions(alloc: Global, tokens: &[Seen<'_>], limit: u32) -> Result<Fun
 {
     let mut cursor = Cursor { rest: tokens };
     let read = functions(alloc, &mut cursor, limit);
-    ended(read, cursor.rest)
+    complete(read, cursor.rest)
 }
 
 fn read_body(alloc: Global, source: &str, limit: u32) -> Result<Body, ParseFault>
@@ -139,13 +133,13 @@ pub fn parse_body(alloc: Global, source: &str) -> Result<Body, ParseFault>
     requires { length source.now < 2 ^ 32 - 1 }
     ensures bare { IfOk result (λ b. b.variables ≡ []) }
     ensures found { IfOk result (λ b. Spells OfBody 64 source.now b.statements) }
-    ensures only { (xs : List Stmt) → Spells OfBody 64 source.now xs → Answers (λ b. b.statements) result xs }
+    ensures only { ReadsOnly (λ b. b.statements) OfBody 64 source.now result }
     ensures bad { (at : ℕ) → result ≡ Err (ParseFault.BadToken at) → IsBadAt source.now at }
-    ensures bad_only { (at : ℕ) → IsBadAt source.now at → Faults result (ParseFault.BadToken at) }
-    ensures unexpected { (at : ℕ) → result ≡ Err (ParseFault.Unexpected at) → IsUnexpectedAt OfBody source.now at }
-    ensures unexpected_only { (at : ℕ) → IsUnexpectedAt OfBody source.now at → Faults result (ParseFault.Unexpected at) }
-    ensures deep { (at : ℕ) → result ≡ Err (ParseFault.TooDeep at) → IsTooDeepAt OfBody 64 source.now at }
-    ensures deep_only { (at : ℕ) → IsTooDeepAt OfBody 64 source.now at → Faults result (ParseFault.TooDeep at) }
+    ensures bad_only { BadOnly source.now result }
+    ensures unexpected { Unexpected OfBody source.now result }
+    ensures unexpected_only { UnexpectedOnly OfBody source.now result }
+    ensures deep { TooDeep OfBody 64 source.now result }
+    ensures deep_only { TooDeepOnly OfBody 64 source.now result }
 {
     read_body(alloc, source, WRITTEN)
 }
@@ -155,13 +149,13 @@ pub fn parse_body(alloc: Global, source: &str) -> Result<Body, ParseFault>
 pub fn parse_functions(alloc: Global, source: &str) -> Result<Functions, ParseFault>
     requires { length source.now < 2 ^ 32 - 1 }
     ensures found { IfOk result (Spells OfFunctions 64 source.now) }
-    ensures only { (xs : List Function) → Spells OfFunctions 64 source.now xs → Answers (λ xs. xs) result xs }
+    ensures only { ReadsOnly (λ xs. xs) OfFunctions 64 source.now result }
     ensures bad { (at : ℕ) → result ≡ Err (ParseFault.BadToken at) → IsBadAt source.now at }
-    ensures bad_only { (at : ℕ) → IsBadAt source.now at → Faults result (ParseFault.BadToken at) }
-    ensures unexpected { (at : ℕ) → result ≡ Err (ParseFault.Unexpected at) → IsUnexpectedAt OfFunctions source.now at }
-    ensures unexpected_only { (at : ℕ) → IsUnexpectedAt OfFunctions source.now at → Faults result (ParseFault.Unexpected at) }
-    ensures deep { (at : ℕ) → result ≡ Err (ParseFault.TooDeep at) → IsTooDeepAt OfFunctions 64 source.now at }
-    ensures deep_only { (at : ℕ) → IsTooDeepAt OfFunctions 64 source.now at → Faults result (ParseFault.TooDeep at) }
+    ensures bad_only { BadOnly source.now result }
+    ensures unexpected { Unexpected OfFunctions source.now result }
+    ensures unexpected_only { UnexpectedOnly OfFunctions source.now result }
+    ensures deep { TooDeep OfFunctions 64 source.now result }
+    ensures deep_only { TooDeepOnly OfFunctions 64 source.now result }
 {
     read_functions(alloc, source, WRITTEN)
 }
@@ -172,13 +166,13 @@ pub fn parse_shown(alloc: Global, source: &str) -> Result<Body, ParseFault>
     requires { length source.now < 2 ^ 32 - 1 }
     ensures bare { IfOk result (λ b. b.variables ≡ []) }
     ensures found { IfOk result (λ b. Spells OfBody 512 source.now b.statements) }
-    ensures only { (xs : List Stmt) → Spells OfBody 512 source.now xs → Answers (λ b. b.statements) result xs }
+    ensures only { ReadsOnly (λ b. b.statements) OfBody 512 source.now result }
     ensures bad { (at : ℕ) → result ≡ Err (ParseFault.BadToken at) → IsBadAt source.now at }
-    ensures bad_only { (at : ℕ) → IsBadAt source.now at → Faults result (ParseFault.BadToken at) }
-    ensures unexpected { (at : ℕ) → result ≡ Err (ParseFault.Unexpected at) → IsUnexpectedAt OfBody source.now at }
-    ensures unexpected_only { (at : ℕ) → IsUnexpectedAt OfBody source.now at → Faults result (ParseFault.Unexpected at) }
-    ensures deep { (at : ℕ) → result ≡ Err (ParseFault.TooDeep at) → IsTooDeepAt OfBody 512 source.now at }
-    ensures deep_only { (at : ℕ) → IsTooDeepAt OfBody 512 source.now at → Faults result (ParseFault.TooDeep at) }
+    ensures bad_only { BadOnly source.now result }
+    ensures unexpected { Unexpected OfBody source.now result }
+    ensures unexpected_only { UnexpectedOnly OfBody source.now result }
+    ensures deep { TooDeep OfBody 512 source.now result }
+    ensures deep_only { TooDeepOnly OfBody 512 source.now result }
 {
     read_body(alloc, source, SHOWN)
 }
@@ -187,13 +181,13 @@ pub fn parse_shown(alloc: Global, source: &str) -> Result<Body, ParseFault>
 pub fn parse_shown_functions(alloc: Global, source: &str) -> Result<Functions, ParseFault>
     requires { length source.now < 2 ^ 32 - 1 }
     ensures found { IfOk result (Spells OfFunctions 512 source.now) }
-    ensures only { (xs : List Function) → Spells OfFunctions 512 source.now xs → Answers (λ xs. xs) result xs }
+    ensures only { ReadsOnly (λ xs. xs) OfFunctions 512 source.now result }
     ensures bad { (at : ℕ) → result ≡ Err (ParseFault.BadToken at) → IsBadAt source.now at }
-    ensures bad_only { (at : ℕ) → IsBadAt source.now at → Faults result (ParseFault.BadToken at) }
-    ensures unexpected { (at : ℕ) → result ≡ Err (ParseFault.Unexpected at) → IsUnexpectedAt OfFunctions source.now at }
-    ensures unexpected_only { (at : ℕ) → IsUnexpectedAt OfFunctions source.now at → Faults result (ParseFault.Unexpected at) }
-    ensures deep { (at : ℕ) → result ≡ Err (ParseFault.TooDeep at) → IsTooDeepAt OfFunctions 512 source.now at }
-    ensures deep_only { (at : ℕ) → IsTooDeepAt OfFunctions 512 source.now at → Faults result (ParseFault.TooDeep at) }
+    ensures bad_only { BadOnly source.now result }
+    ensures unexpected { Unexpected OfFunctions source.now result }
+    ensures unexpected_only { UnexpectedOnly OfFunctions source.now result }
+    ensures deep { TooDeep OfFunctions 512 source.now result }
+    ensures deep_only { TooDeepOnly OfFunctions 512 source.now result }
 {
     read_functions(alloc, source, SHOWN)
 }

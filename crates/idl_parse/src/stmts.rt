@@ -1,56 +1,21 @@
-//! Statements. A reader answers what was read and its nesting; `below` is the nesting that may
-//! stand in a statement.
+//! Statements and their blocks. A reader answers what was read and its nesting; `below` is the
+//! nesting that may stand in a statement.
 
-ghost use Rattle.std.specs.Prelude.{◌≡◌, ◌≤◌, ◌+◌, [], ◌∷◌, Some, None, IfOk};
-ghost use Rattle.idl_tree.specs.declared.statements.Stmt.TheVariants as st;
+ghost use Rattle.std.specs.Prelude.{◌≡◌, ◌≤◌, ◌+◌, ◌-◌, IfOk};
 ghost use Rattle.idl_grammar.specs.Outcome as o;
 ghost use Rattle.idl_grammar.specs.StmtReader as spec;
-ghost use Rattle.idl_seen.specs.Seen.{symbols};
-ghost use Rattle.idl_parse.specs.Branching as branch;
-ghost use Rattle.idl_parse.specs.ForPieces as each;
-ghost use Rattle.idl_parse.specs.Gives.{Gives};
-ghost use Rattle.idl_parse.specs.StmtPieces as piece;
+ghost use Rattle.idl_exprs.specs.Gives.{Reads, pair, ahead};
+ghost use Rattle.idl_parse.specs.Statements.{at, any_stmt, begins_at, else_block, else_if, for_to, for_block};
 
-use crate::assigning::{csr, register, worded};
-use crate::cursor::{Cursor, expect};
-use crate::headers::{header, test};
-use crate::plain::{declared, give, jump, memory, trap};
-use crate::stop::Stop;
-use idl_seen::Seen;
-use idl_token::{Reserved, Sign};
-use idl_tree::{Expr, Many, Name, NoMemory, Stmt, Stmts, Width};
+use crate::simple::{declaration, jump, raise, return_stmt, write_memory};
+use crate::writes::{after_word, csr, register};
+use idl_exprs::{
+    Cursor, ExprPart, Stop, expect, expect_reserved, expect_word, expr_part, keep, only, width,
+    with, word,
+};
+use idl_token::{Reserved, Seen, Sign};
+use idl_tree::{Boxed, Many, Name, Stmt, Stmts, Width};
 use std::alloc::Global;
-
-fn block_of(block: Stmts) -> Stmt
-    ensures { result ≡ st.Block block }
-{
-    Stmt::Block(block)
-}
-
-fn if_of(test: Expr, yes: Stmts, no: Option<Stmts>) -> Stmt
-    ensures { result ≡ st.If test yes no }
-{
-    Stmt::If { test, yes, no }
-}
-
-fn for_of(name: Name, from: Width, to: Width, block: Stmts) -> Stmt
-    ensures { result ≡ st.For name from to block }
-{
-    Stmt::For {
-        name,
-        from,
-        to,
-        block,
-    }
-}
-
-fn alone(alloc: Global, stmt: Stmt) -> Result<Stmts, NoMemory>
-    ensures { IfOk result (λ x. x ≡ stmt ∷ []) }
-{
-    let mut all = Many::new(alloc);
-    all.push(stmt)?;
-    Ok(all)
-}
 
 fn begins_reserved(word: Reserved) -> bool
     ensures { result ≡ spec.begins_reserved word }
@@ -78,7 +43,7 @@ fn begins_reserved(word: Reserved) -> bool
 }
 
 fn begins(tokens: &Cursor<'_>) -> bool
-    ensures { result ≡ piece.begins_at (o.head (symbols tokens.now.rest.now)) }
+    ensures { result ≡ begins_at (o.head (ahead tokens.now)) }
 {
     match tokens.peek() {
         Some(Seen::Word(_)) => true,
@@ -91,23 +56,23 @@ fn begins(tokens: &Cursor<'_>) -> bool
 /// Statements of nesting at most `depth`, for as long as one begins.
 #[cycle(stmts)]
 pub fn stmts(alloc: Global, tokens: &mut Cursor<'_>, depth: u32) -> Result<(Stmts, u64), Stop>
-    ensures read { Gives (λ x. (x.0, x.1)) (spec.stmts depth (symbols tokens.old.rest.now)) result (symbols tokens.new.rest.now) }
+    ensures read { Reads pair (spec.stmts depth) tokens.old result tokens.new }
     ensures small { IfOk result (λ x. x.1 ≤ depth) }
 {
     let mut found = Many::new(alloc);
     let mut nesting: u64 = 0;
     'rows: while begins(tokens) {
-        let (next, high) = one(alloc, tokens, depth)?;
-        found.push(next)?;
+        let (all, (next, high)) = keep(found, one(alloc, tokens, depth))?;
+        found = with(all, next)?;
         nesting = nesting.max(high);
     }
     Ok((found, nesting))
 }
 
 #[cycle(stmts)]
-#[tactic(auto, unfolding(crate::specs::StmtPieces::one_of))]
+#[tactic(auto, unfolding(crate::specs::Statements::any_stmt))]
 fn one(alloc: Global, tokens: &mut Cursor<'_>, depth: u32) -> Result<(Stmt, u64), Stop>
-    ensures { Gives (λ x. (x.0, x.1)) (piece.one_of depth (symbols tokens.old.rest.now)) result (symbols tokens.new.rest.now) }
+    ensures { Reads pair (any_stmt depth) tokens.old result tokens.new }
 {
     if depth == 0 {
         return Err(Stop::Fault);
@@ -115,19 +80,22 @@ fn one(alloc: Global, tokens: &mut Cursor<'_>, depth: u32) -> Result<(Stmt, u64)
     stmt(alloc, tokens, depth - 1)
 }
 
+// stmt ::= word after_word | '{' stmts '}' | 'X' register | 'CSR' csr | 'return' return_stmt
+//     | 'if' if_stmt | 'for' for_stmt | 'jump' jump | 'raise' raise | 'write_memory' write_memory
+//     | declaration
 #[cycle(stmts)]
 #[tactic(auto, unfolding(idl_grammar::specs::StmtReader::stmt))]
 fn stmt(alloc: Global, tokens: &mut Cursor<'_>, below: u32) -> Result<(Stmt, u64), Stop>
-    ensures { Gives (λ x. (x.0, x.1)) (piece.stmt below (symbols tokens.old.rest.now)) result (symbols tokens.new.rest.now) }
+    ensures { Reads pair (at spec.stmt below) tokens.old result tokens.new }
 {
     match tokens.peek() {
         Some(Seen::Word(word)) => {
             tokens.skip();
-            worded(alloc, tokens, below, word)
+            after_word(alloc, tokens, below, word)
         }
         Some(Seen::Sign(Sign::OpenBrace)) => {
             tokens.skip();
-            blocked(alloc, tokens, below)
+            block_stmt(alloc, tokens, below)
         }
         Some(Seen::Reserved(Reserved::X)) => {
             if below < 2 {
@@ -148,18 +116,18 @@ fn stmt(alloc: Global, tokens: &mut Cursor<'_>, below: u32) -> Result<(Stmt, u64
                 return Err(Stop::Fault);
             }
             tokens.skip();
-            give(alloc, tokens, below)
+            return_stmt(alloc, tokens, below)
         }
         Some(Seen::Reserved(Reserved::If)) => {
             if below == 0 {
                 return Err(Stop::Fault);
             }
             tokens.skip();
-            when(alloc, tokens, below)
+            if_stmt(alloc, tokens, below)
         }
         Some(Seen::Reserved(Reserved::For)) => {
             tokens.skip();
-            count(alloc, tokens, below)
+            for_stmt(alloc, tokens, below)
         }
         Some(Seen::Reserved(Reserved::Jump)) => {
             if below == 0 {
@@ -173,71 +141,64 @@ fn stmt(alloc: Global, tokens: &mut Cursor<'_>, below: u32) -> Result<(Stmt, u64
                 return Err(Stop::Fault);
             }
             tokens.skip();
-            trap(alloc, tokens, below)
+            raise(alloc, tokens, below)
         }
         Some(Seen::Reserved(Reserved::WriteMemory)) => {
             if below == 0 {
                 return Err(Stop::Fault);
             }
             tokens.skip();
-            memory(alloc, tokens, below)
+            write_memory(alloc, tokens, below)
         }
         _ => {
             if below == 0 {
                 return Err(Stop::Fault);
             }
-            declared(alloc, tokens, below)
+            declaration(alloc, tokens, below)
         }
     }
 }
 
-// After the opening brace.
+// After the opening one of block ::= '{' stmts '}'
 #[cycle(stmts)]
 #[tactic(auto, unfolding(idl_grammar::specs::StmtReader::braced))]
-fn braced(alloc: Global, tokens: &mut Cursor<'_>, below: u32) -> Result<(Stmts, u64), Stop>
-    ensures read { Gives (λ x. (x.0, x.1)) (piece.braced below (symbols tokens.old.rest.now)) result (symbols tokens.new.rest.now) }
+fn block(alloc: Global, tokens: &mut Cursor<'_>, below: u32) -> Result<(Stmts, u64), Stop>
+    ensures read { Reads pair (at spec.braced below) tokens.old result tokens.new }
     ensures small { IfOk result (λ x. x.1 ≤ below) }
 {
     let (found, nesting) = stmts(alloc, tokens, below)?;
-    expect(tokens, Sign::CloseBrace)?;
+    let (found, _) = keep(found, expect(tokens, Sign::CloseBrace))?;
     Ok((found, nesting))
 }
 
 #[cycle(stmts)]
 #[tactic(auto, unfolding(idl_grammar::specs::StmtReader::blocked))]
-fn blocked(alloc: Global, tokens: &mut Cursor<'_>, below: u32) -> Result<(Stmt, u64), Stop>
-    ensures { Gives (λ x. (x.0, x.1)) (piece.blocked below (symbols tokens.old.rest.now)) result (symbols tokens.new.rest.now) }
+fn block_stmt(alloc: Global, tokens: &mut Cursor<'_>, below: u32) -> Result<(Stmt, u64), Stop>
+    ensures { Reads pair (at spec.blocked below) tokens.old result tokens.new }
 {
-    let (found, nesting) = braced(alloc, tokens, below)?;
-    Ok((block_of(found), nesting + 1))
+    let (found, nesting) = block(alloc, tokens, below)?;
+    Ok((Stmt::Block(found), nesting + 1))
 }
 
-// The block of an `if`, with what follows it.
+// if_stmt ::= 'if' '(' expr ')' block otherwise, after the word
 #[cycle(stmts)]
-fn branches(
-    alloc: Global,
-    tokens: &mut Cursor<'_>,
-    below: u32,
-) -> Result<(Stmts, Option<Stmts>, u64), Stop>
-    ensures read { Gives (λ x. (x.0, x.1, x.2)) (branch.branches below (symbols tokens.old.rest.now)) result (symbols tokens.new.rest.now) }
-    ensures small { IfOk result (λ x. x.2 ≤ below) }
-{
-    let (yes, high) = braced(alloc, tokens, below)?;
-    let (no, nesting) = otherwise(alloc, tokens, below)?;
-    Ok((yes, no, high.max(nesting)))
-}
-
-// After `if`.
-#[cycle(stmts)]
-fn when(alloc: Global, tokens: &mut Cursor<'_>, below: u32) -> Result<(Stmt, u64), Stop>
-    ensures read { Gives (λ x. (x.0, x.1)) (branch.when below (symbols tokens.old.rest.now)) result (symbols tokens.new.rest.now) }
+#[tactic(auto, unfolding(idl_grammar::specs::StmtReader::when))]
+fn if_stmt(alloc: Global, tokens: &mut Cursor<'_>, below: u32) -> Result<(Stmt, u64), Stop>
+    ensures read { Reads pair (at spec.when below) tokens.old result tokens.new }
     ensures small { IfOk result (λ x. x.1 ≤ below + 1) }
 {
-    let (test, high) = test(alloc, tokens, below)?;
-    let (yes, no, nesting) = branches(alloc, tokens, below)?;
-    Ok((if_of(test, yes, no), high.max(nesting) + 1))
+    expect(tokens, Sign::OpenParen)?;
+    let (test, high) = expr_part(alloc, tokens, below, ExprPart::Any)?;
+    let (test, _) = keep(test, expect(tokens, Sign::CloseParen))?;
+    let (test, _) = keep(test, expect(tokens, Sign::OpenBrace))?;
+    let (test, (yes, low)) = keep(test, block(alloc, tokens, below))?;
+    let (parts, (no, inner)) = keep((test, yes), otherwise(alloc, tokens, below))?;
+    let (test, yes) = parts;
+    let test = test.into_inner();
+    Ok((Stmt::If { test, yes, no }, high.max(low.max(inner)) + 1))
 }
 
+// otherwise ::= [ 'else' ( block | 'if' if_stmt ) ]
 #[cycle(stmts)]
 #[tactic(auto, unfolding(idl_grammar::specs::StmtReader::otherwise))]
 fn otherwise(
@@ -245,7 +206,7 @@ fn otherwise(
     tokens: &mut Cursor<'_>,
     below: u32,
 ) -> Result<(Option<Stmts>, u64), Stop>
-    ensures read { Gives (λ x. (x.0, x.1)) (piece.otherwise below (symbols tokens.old.rest.now)) result (symbols tokens.new.rest.now) }
+    ensures read { Reads pair (at spec.otherwise below) tokens.old result tokens.new }
     ensures small { IfOk result (λ x. x.1 ≤ below) }
 {
     if !tokens.sees_reserved(Reserved::Else) {
@@ -274,29 +235,86 @@ fn else_block(
     tokens: &mut Cursor<'_>,
     below: u32,
 ) -> Result<(Option<Stmts>, u64), Stop>
-    ensures read { Gives (λ x. (x.0, x.1)) (piece.else_block below (symbols tokens.old.rest.now)) result (symbols tokens.new.rest.now) }
+    ensures read { Reads pair (else_block below) tokens.old result tokens.new }
     ensures small { IfOk result (λ x. x.1 ≤ below) }
 {
-    let (found, nesting) = braced(alloc, tokens, below)?;
+    let (found, nesting) = block(alloc, tokens, below)?;
     Ok((Some(found), nesting))
 }
 
+// An `else if` is a block of one statement, which nests no deeper than this `if`.
 #[cycle(stmts)]
 fn else_if(alloc: Global, tokens: &mut Cursor<'_>, below: u32) -> Result<(Option<Stmts>, u64), Stop>
     requires { 2 ≤ below }
-    ensures read { Gives (λ x. (x.0, x.1)) (piece.else_if below (symbols tokens.old.rest.now)) result (symbols tokens.new.rest.now) }
+    ensures read { Reads pair (else_if below) tokens.old result tokens.new }
     ensures small { IfOk result (λ x. x.1 ≤ below) }
 {
-    let (found, nesting) = when(alloc, tokens, below - 1)?;
-    Ok((Some(alone(alloc, found)?), nesting))
+    let (found, nesting) = if_stmt(alloc, tokens, below - 1)?;
+    Ok((Some(only(alloc, found)?), nesting))
 }
 
-// After `for`.
+// After the bounds of a counter, with their nesting: ';' word '++' ')' block
 #[cycle(stmts)]
-fn count(alloc: Global, tokens: &mut Cursor<'_>, below: u32) -> Result<(Stmt, u64), Stop>
-    ensures { Gives (λ x. (x.0, x.1)) (each.counted below (symbols tokens.old.rest.now)) result (symbols tokens.new.rest.now) }
+fn for_block(
+    alloc: Global,
+    tokens: &mut Cursor<'_>,
+    below: u32,
+    counter: &str,
+    from: (Boxed<Width>, u64),
+    to: (Boxed<Width>, u64),
+) -> Result<(Stmt, u64), Stop>
+    requires low { from.1 ≤ below }
+    requires high { to.1 ≤ below }
+    ensures { Reads pair (for_block below counter.now from to) tokens.old result tokens.new }
 {
-    let (counter, from, to, high) = header(alloc, tokens, below)?;
-    let (block, nesting) = braced(alloc, tokens, below)?;
-    Ok((for_of(counter, from, to, block), high.max(nesting) + 1))
+    let bounds = (from, to);
+    let (bounds, _) = keep(bounds, expect(tokens, Sign::Semicolon))?;
+    let (bounds, _) = keep(bounds, expect_word(tokens, counter))?;
+    let (bounds, _) = keep(bounds, expect(tokens, Sign::Increment))?;
+    let (bounds, _) = keep(bounds, expect(tokens, Sign::CloseParen))?;
+    let (bounds, _) = keep(bounds, expect(tokens, Sign::OpenBrace))?;
+    let (bounds, (block, inner)) = keep(bounds, block(alloc, tokens, below))?;
+    let ((bounds, block), name) = keep((bounds, block), Name::of(alloc, counter))?;
+    let ((from, low), (to, high)) = bounds;
+    let (from, to) = (from.into_inner(), to.into_inner());
+    let found = Stmt::For {
+        name,
+        from,
+        to,
+        block,
+    };
+    Ok((found, low.max(high.max(inner)) + 1))
+}
+
+// After the first bound of a counter, with its nesting: ';' word '<' width for_block
+#[cycle(stmts)]
+fn for_to(
+    alloc: Global,
+    tokens: &mut Cursor<'_>,
+    below: u32,
+    counter: &str,
+    from: (Boxed<Width>, u64),
+) -> Result<(Stmt, u64), Stop>
+    requires { from.1 ≤ below }
+    ensures { Reads pair (for_to below counter.now from) tokens.old result tokens.new }
+{
+    let (from, _) = keep(from, expect(tokens, Sign::Semicolon))?;
+    let (from, _) = keep(from, expect_word(tokens, counter))?;
+    let (from, _) = keep(from, expect(tokens, Sign::Less))?;
+    let (from, to) = keep(from, width(alloc, tokens, below))?;
+    for_block(alloc, tokens, below, counter, from, to)
+}
+
+// for_stmt ::= 'for' '(' 'U32' word '=' width for_to, after the word
+#[cycle(stmts)]
+#[tactic(auto, unfolding(idl_grammar::specs::StmtReader::count))]
+fn for_stmt(alloc: Global, tokens: &mut Cursor<'_>, below: u32) -> Result<(Stmt, u64), Stop>
+    ensures { Reads pair (at spec.count below) tokens.old result tokens.new }
+{
+    expect(tokens, Sign::OpenParen)?;
+    expect_reserved(tokens, Reserved::U32)?;
+    let counter = word(tokens)?;
+    expect(tokens, Sign::Assign)?;
+    let from = width(alloc, tokens, below)?;
+    for_to(alloc, tokens, below, counter, from)
 }

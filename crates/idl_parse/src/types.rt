@@ -1,28 +1,25 @@
-//! Whole widths and types. A reader answers a value and its nesting.
+//! Names and types. A reader answers a type and its nesting, which is that of its width.
 
-ghost use Rattle.std.specs.Prelude.{◌≡◌, false};
-ghost use Rattle.idl_tree.specs.declared.widths.Shape.TheVariants as sh;
-ghost use Rattle.idl_grammar.specs.WidthReader as widths;
+ghost use Rattle.std.specs.Prelude.{◌≡◌, ◌≤◌, false, IfOk};
+ghost use Rattle.idl_grammar.specs.Outcome as o;
 ghost use Rattle.idl_grammar.specs.StmtReader as spec;
-ghost use Rattle.idl_seen.specs.Seen.{symbols};
-ghost use Rattle.idl_parse.specs.Gives.{Gives};
+ghost use Rattle.idl_tree.specs.declared.widths.Shape.TheVariants as shape;
+ghost use Rattle.idl_exprs.specs.Gives.{Reads, pair};
 
-use crate::cursor::{Cursor, expect, expect_reserved};
-use crate::stop::{Stop, WidthPart};
-use crate::widths::width_part;
-use idl_seen::Seen;
-use idl_token::{Reserved, Sign};
+use idl_exprs::{Cursor, Stop, expect, expect_reserved, keep, width, word};
+use idl_token::{Reserved, Seen, Sign};
 use idl_tree::{EnumKind, Name, Shape, Width};
 use std::alloc::Global;
 
-/// A whole width, of nesting at most `depth`.
-pub fn width(alloc: Global, tokens: &mut Cursor<'_>, depth: u32) -> Result<(Width, u64), Stop>
-    ensures { Gives (λ x. (x.0, x.1)) (widths.width depth (symbols tokens.old.rest.now)) result (symbols tokens.new.rest.now) }
+/// A word as a name, or stops.
+pub fn name(alloc: Global, tokens: &mut Cursor<'_>) -> Result<Name, Stop>
+    ensures { Reads (λ x. x) o.name tokens.old result tokens.new }
 {
-    let (found, _, nesting) = width_part(alloc, tokens, depth, WidthPart::Whole)?;
-    Ok((found, nesting))
+    let text = word(tokens)?;
+    Ok(Name::of(alloc, text)?)
 }
 
+// bits ::= '<' width '>'
 #[tactic(auto, unfolding(idl_grammar::specs::StmtReader::bits))]
 fn bits(
     alloc: Global,
@@ -30,41 +27,35 @@ fn bits(
     depth: u32,
     signed: bool,
 ) -> Result<(Shape, u64), Stop>
-    ensures { Gives (λ x. (x.0, x.1)) (spec.bits depth signed (symbols tokens.old.rest.now)) result (symbols tokens.new.rest.now) }
+    ensures { Reads pair (spec.bits depth signed) tokens.old result tokens.new }
 {
     expect(tokens, Sign::Less)?;
-    let (found, nesting) = width(alloc, tokens, depth)?;
-    expect(tokens, Sign::Greater)?;
-    Ok((
-        Shape::Bits {
-            signed,
-            width: found,
-        },
-        nesting,
-    ))
+    let (width, nesting) = width(alloc, tokens, depth)?;
+    let (width, _) = keep(width, expect(tokens, Sign::Greater))?;
+    let width = width.into_inner();
+    Ok((Shape::Bits { signed, width }, nesting))
 }
 
+// signed_bits ::= 'Bits' bits
 #[tactic(auto, unfolding(idl_grammar::specs::StmtReader::signed_bits))]
 fn signed_bits(alloc: Global, tokens: &mut Cursor<'_>, depth: u32) -> Result<(Shape, u64), Stop>
-    ensures { Gives (λ x. (x.0, x.1)) (spec.signed_bits depth (symbols tokens.old.rest.now)) result (symbols tokens.new.rest.now) }
+    ensures { Reads pair (spec.signed_bits depth) tokens.old result tokens.new }
 {
     expect_reserved(tokens, Reserved::Bits)?;
     bits(alloc, tokens, depth, true)
 }
 
-fn unsigned(width: Width) -> Shape
-    ensures { result ≡ sh.Bits false width }
+fn unsigned(width: Width) -> (Shape, u64)
+    ensures { result ≡ (shape.Bits false width, 0) }
 {
-    Shape::Bits {
-        signed: false,
-        width,
-    }
+    let signed = false;
+    (Shape::Bits { signed, width }, 0)
 }
 
-/// A type, with widths of nesting at most `depth`.
+// shape ::= 'Bits' bits | 'signed' signed_bits | 'XReg' | 'U32' | 'U64' | 'Boolean' | enumeration
 #[tactic(auto, unfolding(idl_grammar::specs::StmtReader::shape))]
-pub fn shape(alloc: Global, tokens: &mut Cursor<'_>, depth: u32) -> Result<(Shape, u64), Stop>
-    ensures { Gives (λ x. (x.0, x.1)) (spec.shape depth (symbols tokens.old.rest.now)) result (symbols tokens.new.rest.now) }
+fn any_shape(alloc: Global, tokens: &mut Cursor<'_>, depth: u32) -> Result<(Shape, u64), Stop>
+    ensures { Reads pair (spec.shape depth) tokens.old result tokens.new }
 {
     match tokens.peek() {
         Some(Seen::Reserved(Reserved::Bits)) => {
@@ -77,15 +68,15 @@ pub fn shape(alloc: Global, tokens: &mut Cursor<'_>, depth: u32) -> Result<(Shap
         }
         Some(Seen::Reserved(Reserved::XReg)) => {
             tokens.skip();
-            Ok((unsigned(Width::Word(Name::of(alloc, "MXLEN")?)), 0))
+            Ok(unsigned(Width::Word(Name::of(alloc, "MXLEN")?)))
         }
         Some(Seen::Reserved(Reserved::U32)) => {
             tokens.skip();
-            Ok((unsigned(Width::Number(32)), 0))
+            Ok(unsigned(Width::Number(32)))
         }
         Some(Seen::Reserved(Reserved::U64)) => {
             tokens.skip();
-            Ok((unsigned(Width::Number(64)), 0))
+            Ok(unsigned(Width::Number(64)))
         }
         Some(Seen::Reserved(Reserved::Boolean)) => {
             tokens.skip();
@@ -105,4 +96,12 @@ pub fn shape(alloc: Global, tokens: &mut Cursor<'_>, depth: u32) -> Result<(Shap
         }
         _ => Err(Stop::Fault),
     }
+}
+
+/// A type, with widths of nesting at most `depth`.
+pub fn shape(alloc: Global, tokens: &mut Cursor<'_>, depth: u32) -> Result<(Shape, u64), Stop>
+    ensures read { Reads pair (spec.shape depth) tokens.old result tokens.new }
+    ensures small { IfOk result (λ x. x.1 ≤ depth) }
+{
+    any_shape(alloc, tokens, depth)
 }

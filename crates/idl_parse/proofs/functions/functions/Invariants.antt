@@ -2,8 +2,8 @@ use Rattle.std.proofs.Common.{◌≡◌, length}
 use Rattle.idl_token.specs.declared.kinds.Reserved.TheVariants as r
 use Rattle.idl_grammar.specs.Outcome as o
 use Rattle.idl_grammar.specs.StmtReader as spec
-use Rattle.idl_seen.specs.Seen.{symbols}
-use Rattle.idl_parse.specs.StmtPieces.{joined}
+use Rattle.idl_token.specs.Seen.{symbols}
+use Rattle.idl_exprs.specs.Lists.{joined}
 use Rattle.idl_parse.proofs.functions.functions.Given as goal
 
 abbrev pub invariant-rows : goal.invariant-rows

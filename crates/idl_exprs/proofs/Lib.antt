@@ -1,0 +1,5 @@
+pub mod AtomSteps
+pub mod WidthSteps
+pub mod RowSteps
+pub mod ExprSteps
+pub mod LevelSteps
