@@ -3,7 +3,7 @@ use Rattle.std.proofs.Common.{◌≡◌, ℕ, ◌<◌, ◌+◌, ◌%◌, ◌^◌
 use Rattle.std.specs.List.{list_all}
 use Rattle.std.proofs.lemmas.Bool.Decides.{nat_tests}
 use Rattle.std.proofs.lemmas.Fmt.{decimal_by_steps}
-use Rattle.idl_tree.specs.Print.{text_of_lines}
+use Rattle.udb_base.specs.Lines.{text_of_lines}
 use Rattle.first_bundle.specs.Lines.{plain, plain_byte, split_onto, split_lines}
 
 abbrev pub is_clean : ℕ → Bool

@@ -14,7 +14,7 @@ use Rattle.entry_tree.specs.declared.Given.{Given}
 use Rattle.entry_tree.specs.declared.ConfigEntry.{ConfigEntry}
 use Rattle.first_spec.specs.declared.bundle.FirstBundle.{FirstBundle}
 use Rattle.idl_tree.specs.Each.{Each}
-use Rattle.idl_tree.specs.Print.{text_of_lines}
+use Rattle.udb_base.specs.Lines.{text_of_lines}
 use Rattle.first_spec.specs.Alphabets.{begins, is_upper, is_word_byte, is_parameter_name, is_instruction_name, is_config_name, is_idl_type, is_idl_member, is_text, is_match}
 use Rattle.first_spec.specs.Bundle.{param_lines, instruction_lines, config_lines, digits_among, Fits, IsSwitch, IsParam, Rise, is_switch_name, IsInstruction, IsGiven, GivesParams, IsConfig, IsFirst}
 use Rattle.first_bundle.specs.Checks.{fits, is_mxlen, is_switch, plain_param_passes, param_passes, rises_from, plain_instruction_passes, instruction_passes, plain_config_passes, givens_pass, gives_pass, config_passes, names_pass, bundle_passes}

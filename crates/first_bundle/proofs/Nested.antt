@@ -9,7 +9,8 @@ use Rattle.idl_tree.specs.declared.statements.Target.TheVariants as t
 use Rattle.idl_tree.specs.declared.statements.Stmt.{Stmt}
 use Rattle.idl_tree.specs.declared.statements.Stmt.TheVariants as s
 use Rattle.idl_tree.specs.Each.{Each}
-use Rattle.idl_tree.specs.Print.{Lines, stmt_lines, indented, margined, if_text, expr_text}
+use Rattle.udb_base.specs.Lines.{Lines}
+use Rattle.idl_tree.specs.Print.{stmt_lines, indented, margined, if_text, expr_text}
 use Rattle.entry_tree.specs.declared.ParamEntry.{ParamEntry}
 use Rattle.first_spec.specs.Bundle.{IsParam, IsTest, IsStatement, AreStatements}
 use Rattle.first_bundle.specs.declared.statements.Assignment.{Assignment}

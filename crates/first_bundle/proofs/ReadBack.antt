@@ -19,7 +19,7 @@ use Rattle.entry_tree.specs.declared.ConfigEntry.{ConfigEntry}
 use Rattle.first_spec.specs.declared.bundle.FirstBundle.{FirstBundle}
 use Rattle.idl_tree.specs.Each.{Each}
 use Rattle.idl_tree.specs.Print.{stmt_lines}
-use Rattle.first_spec.specs.Bundle.{bundle_part, schema_lines, param_lines, instruction_lines, config_lines, params_lines, bundle_lines, digits_among, value_word, given_line, kind_line, given_lines, IsSwitch, IsParam, IsInstruction, IsGiven, GivesParams, IsConfig, IsFirst, Spells}
+use Rattle.first_spec.specs.Bundle.{bundle_part, schema_lines, param_lines, instruction_lines, config_lines, params_lines, bundle_lines, digits_among, value_word, given_line, kind_line, given_lines, IsSwitch, IsParam, IsInstruction, IsGiven, GivesParams, IsConfig, IsFirst, SpellsFirst}
 use Rattle.first_bundle.specs.Lines.{plain, until, split_lines}
 use Rattle.first_bundle.specs.Statements.{begins_with}
 use Rattle.first_bundle.specs.Blocks.{read_body}
@@ -160,5 +160,5 @@ pub bundle_read : (x : FirstBundle) → IsFirst x → bundle_of (bundle_lines x)
 bundle_read x h = ap (λ (f : List ParamEntry × List (List ℕ)). bundle_after f.0 f.1) (front_read x h) ∙ last_read x h
 
 -- what spells a bundle is read as that bundle
-pub read_back : (bytes : List ℕ) (x : FirstBundle) → Spells bytes x → bundle_of (split_lines bytes) ≡ Some x
+pub read_back : (bytes : List ℕ) (x : FirstBundle) → SpellsFirst bytes x → bundle_of (split_lines bytes) ≡ Some x
 read_back bytes x h = ap (λ (t : List ℕ). bundle_of (split_lines t)) h.text ∙ (ap bundle_of (split_text (bundle_lines x) (clean_bundle x h.first)) ∙ bundle_read x h.first)

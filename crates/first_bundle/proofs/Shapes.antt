@@ -4,7 +4,8 @@ use Rattle.std.specs.List.{flat_map}
 use Rattle.idl_tree.specs.declared.expressions.Expr.{Expr}
 use Rattle.idl_tree.specs.declared.statements.Stmt.{Stmt}
 use Rattle.idl_tree.specs.declared.statements.Stmt.TheVariants as s
-use Rattle.idl_tree.specs.Print.{Lines, stmt_lines, indented, if_text}
+use Rattle.udb_base.specs.Lines.{Lines}
+use Rattle.idl_tree.specs.Print.{stmt_lines, indented, if_text}
 use Rattle.idl_tree.proofs.Printed.{stmt_lines-Block, stmt_lines-If}
 use Rattle.idl_tree.proofs.Margins.{lines_of}
 

@@ -1,6 +1,6 @@
 -- How many bytes the lines from a place on have.
 use Rattle.std.proofs.Common.{◌≡◌, ℕ, suc, ◌<◌, ◌+◌, List, [], ◌∷◌, ◌++◌, length, drop, get_or, arith, add-one, length-append, drop-cons, ap, ◌∙◌}
-use Rattle.idl_tree.specs.Print.{text_of_lines}
+use Rattle.udb_base.specs.Lines.{text_of_lines}
 
 first_long : (l : List ℕ) (ls : List (List ℕ)) → length (text_of_lines (l ∷ ls)) ≡ length l + 1 + length (text_of_lines ls)
 first_long l ls = omega (arith, length-append (l ++ 10 ∷ []) (text_of_lines ls), length-append l (10 ∷ []))

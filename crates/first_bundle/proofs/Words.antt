@@ -18,7 +18,8 @@ use Rattle.entry_tree.specs.declared.Given.{Given}
 use Rattle.entry_tree.specs.declared.ConfigEntry.{ConfigEntry}
 use Rattle.first_spec.specs.declared.bundle.FirstBundle.{FirstBundle}
 use Rattle.idl_tree.specs.Each.{Each}
-use Rattle.idl_tree.specs.Print.{Lines, stmt_lines, text_of_lines, expr_text, if_text, margined, indented}
+use Rattle.udb_base.specs.Lines.{Lines, text_of_lines}
+use Rattle.idl_tree.specs.Print.{stmt_lines, expr_text, if_text, margined, indented}
 use Rattle.first_spec.specs.Bundle.{bundle_part, schema_lines, param_lines, instruction_lines, value_word, given_line, kind_line, given_lines, config_lines, params_lines, bundle_lines, digits_among, Fits, IsParam, IsTest, IsStatement, AreStatements, IsInstruction, IsGiven, GivesParams, IsConfig, IsFirst}
 use Rattle.first_bundle.proofs.Clean.{is_clean, clean, left_so, right_so, both_so, all_joined, clean-decimal}
 use Rattle.first_bundle.proofs.Names.{each_of, clean_parameter, clean_instruction_name, clean_config_name, clean_match, clean_text, switch_parameter, clean_test}

@@ -14,7 +14,7 @@ use Rattle.entry_tree.specs.declared.ConfigKind.TheVariants.{Partially}
 use Rattle.entry_tree.specs.declared.Given.{Given}
 use Rattle.entry_tree.specs.declared.ConfigEntry.{ConfigEntry}
 use Rattle.first_spec.specs.declared.bundle.FirstBundle.{FirstBundle}
-use Rattle.idl_tree.specs.Print.{text_of_lines}
+use Rattle.udb_base.specs.Lines.{text_of_lines}
 use Rattle.first_spec.specs.Alphabets.{is_parameter_name, is_instruction_name, is_config_name, is_text, is_match}
 use Rattle.first_spec.specs.Bundle.{param_lines, instruction_lines, config_lines, bundle_lines, digits_among, is_switch_name}
 use Rattle.first_bundle.specs.Lines.{split_lines}

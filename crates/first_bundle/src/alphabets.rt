@@ -161,7 +161,8 @@ pub fn is_config_name(name: &[u8]) -> bool
 
 fn is_spaced_at(bytes: &[u8], at: usize, byte: u8) -> bool
     requires { at < length bytes.now }
-    ensures { result ≡ (if byte == 32 then begins is_letter_or_digit (drop (at + 1) bytes.now) else is_letter_or_digit byte) }
+    ensures { result ≡ (if byte == 32
+        then begins is_letter_or_digit (drop (at + 1) bytes.now) else is_letter_or_digit byte) }
 {
     if byte == b' ' {
         begins_word(past(bytes, at + 1))

@@ -72,7 +72,8 @@ fn negation(alloc: Global, name: Name) -> Result<Expr, NoMemory>
 }
 
 fn negated_test(alloc: Global, params: &[ParamEntry], text: &[u8]) -> Result<Option<Expr>, NoMemory>
-    ensures { IfOk result (λ test. test ≡ option_map (λ name. e.Unary Not (e.Word name)) (read_switch params.now text.now)) }
+    ensures { IfOk result (λ test.
+        test ≡ option_map (λ name. e.Unary Not (e.Word name)) (read_switch params.now text.now)) }
 {
     match switch_of(alloc, params, text)? {
         None => Ok(None),
@@ -81,7 +82,8 @@ fn negated_test(alloc: Global, params: &[ParamEntry], text: &[u8]) -> Result<Opt
 }
 
 fn plain_test(alloc: Global, params: &[ParamEntry], text: &[u8]) -> Result<Option<Expr>, NoMemory>
-    ensures { IfOk result (λ test. test ≡ option_map (λ name. e.Word name) (read_switch params.now text.now)) }
+    ensures { IfOk result (λ test.
+        test ≡ option_map (λ name. e.Word name) (read_switch params.now text.now)) }
 {
     match switch_of(alloc, params, text)? {
         None => Ok(None),
@@ -107,7 +109,8 @@ fn enter(
     done: &mut Stmts,
     opening: Opening,
 ) -> Result<(), NoMemory>
-    ensures { OnOk result ((frames.new.items, done.new) ≡ enter opening (frames.old.items, done.old)) }
+    ensures { OnOk result
+        ((frames.new.items, done.new) ≡ enter opening (frames.old.items, done.old)) }
 {
     let before = replace(done, Many::new(alloc));
     frames.insert(0, Frame { before, opening })?;
@@ -135,7 +138,8 @@ fn closed(opening: Opening, inner: Stmts) -> Stmt
 
 // The block that is open ends, where there is one.
 fn close(frames: &mut Vec<Frame>, done: &mut Stmts) -> Result<bool, NoMemory>
-    ensures { IfOk result (λ taken. spec.close (frames.old.items, done.old) ≡ if_taken taken (frames.new.items, done.new)) }
+    ensures { IfOk result (λ taken.
+        spec.close (frames.old.items, done.old) ≡ if_taken taken (frames.new.items, done.new)) }
 {
     if frames.is_empty() {
         return Ok(false);
@@ -146,18 +150,26 @@ fn close(frames: &mut Vec<Frame>, done: &mut Stmts) -> Result<bool, NoMemory>
     Ok(true)
 }
 
+// No block begins, and two values go.
+fn no_opening<A: Drop, B: Drop>(_first: A, _second: B) -> Option<Opening>
+    ensures { result ≡ None }
+{
+    None
+}
+
 fn otherwise(opening: Opening, inner: Stmts) -> Option<Opening>
     ensures { result ≡ otherwise opening inner }
 {
     match opening {
         Opening::Taken(test) => Some(Opening::Other { test, taken: inner }),
-        _ => None,
+        other => no_opening(other, inner),
     }
 }
 
 // The block of an `if` that is open ends, and its other block begins.
 fn turn(alloc: Global, frames: &mut Vec<Frame>, done: &mut Stmts) -> Result<bool, NoMemory>
-    ensures { IfOk result (λ taken. spec.turn (frames.old.items, done.old) ≡ if_taken taken (frames.new.items, done.new)) }
+    ensures { IfOk result (λ taken.
+        spec.turn (frames.old.items, done.old) ≡ if_taken taken (frames.new.items, done.new)) }
 {
     if frames.is_empty() {
         return Ok(false);
@@ -180,7 +192,10 @@ fn begin_if(
     done: &mut Stmts,
     text: &[u8],
 ) -> Result<bool, NoMemory>
-    ensures { IfOk result (λ taken. option_map (λ test. enter (Opening.Taken test) (frames.old.items, done.old)) (read_test params.now text.now) ≡ if_taken taken (frames.new.items, done.new)) }
+    ensures { IfOk result (λ taken.
+        option_map (λ test. enter (Opening.Taken test) (frames.old.items, done.old))
+        (read_test params.now text.now)
+        ≡ if_taken taken (frames.new.items, done.new)) }
 {
     match test_of(alloc, params, text)? {
         None => Ok(false),
@@ -192,7 +207,9 @@ fn begin_if(
 }
 
 fn assign(alloc: Global, done: &mut Stmts, text: &[u8]) -> Result<bool, NoMemory>
-    ensures { IfOk result (λ taken. option_map (λ a. done.old ++ assignment_tree a ∷ []) (read_statement text.now) ≡ if_taken taken done.new) }
+    ensures { IfOk result (λ taken.
+        option_map (λ a. done.old ++ assignment_tree a ∷ []) (read_statement text.now)
+        ≡ if_taken taken done.new) }
 {
     match assignment_of(text) {
         None => Ok(false),
@@ -211,7 +228,9 @@ fn begin(
     done: &mut Stmts,
     text: &[u8],
 ) -> Result<bool, NoMemory>
-    ensures { IfOk result (λ taken. spec.begin params.now (frames.old.items, done.old) text.now ≡ if_taken taken (frames.new.items, done.new)) }
+    ensures { IfOk result (λ taken.
+        spec.begin params.now (frames.old.items, done.old) text.now
+        ≡ if_taken taken (frames.new.items, done.new)) }
 {
     if begins(text, b"{") {
         enter(alloc, frames, done, Opening::Bare)?;
@@ -229,7 +248,9 @@ fn end(
     done: &mut Stmts,
     text: &[u8],
 ) -> Result<bool, NoMemory>
-    ensures { IfOk result (λ taken. spec.end (frames.old.items, done.old) text.now ≡ if_taken taken (frames.new.items, done.new)) }
+    ensures { IfOk result (λ taken.
+        spec.end (frames.old.items, done.old) text.now
+        ≡ if_taken taken (frames.new.items, done.new)) }
 {
     if begins(text, b"} else {") {
         turn(alloc, frames, done)
@@ -246,7 +267,9 @@ fn step(
     done: &mut Stmts,
     line: &[u8],
 ) -> Result<bool, NoMemory>
-    ensures { IfOk result (λ taken. spec.step params.now (frames.old.items, done.old) line.now ≡ if_taken taken (frames.new.items, done.new)) }
+    ensures { IfOk result (λ taken.
+        spec.step params.now (frames.old.items, done.old) line.now
+        ≡ if_taken taken (frames.new.items, done.new)) }
 {
     let text = past(line, 2 * frames.len());
     if begins(text, b"}") {
@@ -264,7 +287,8 @@ pub fn body<'a>(
     params: &[ParamEntry],
     lines: &'a [Line],
 ) -> Result<Option<(Stmts, &'a [Line])>, NoMemory>
-    ensures { IfOk result (λ o. option_map (λ r. (r.0, r.1.now)) o ≡ spec.read_body params.now lines.now) }
+    ensures { IfOk result (λ o.
+        option_map (λ r. (r.0, r.1.now)) o ≡ spec.read_body params.now lines.now) }
 {
     let mut frames = Vec::new(alloc);
     let mut done = Many::new(alloc);

@@ -13,4 +13,4 @@ mod statements;
 
 pub use first_spec::{FirstBundle, ParamEntries};
 pub use printing::match_digits;
-pub use reader::read_first;
+pub use reader::{one_bundle, read_first};

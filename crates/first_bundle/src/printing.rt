@@ -2,14 +2,16 @@
 
 ghost use Rattle.std.specs.Prelude.{◌≡◌, ◌++◌, ◌∷◌, [], length, IfOk, OnOk, map, codes};
 ghost use Rattle.std.specs.Fmt.{decimal};
-ghost use Rattle.idl_tree.specs.Print.{body_lines, text_of_lines};
+ghost use Rattle.udb_base.specs.Lines.{text_of_lines};
+ghost use Rattle.idl_tree.specs.Print.{body_lines};
+ghost use Rattle.first_bundle.specs.Printing.{name_lines, encoding_lines, lines_before_body};
 ghost use Rattle.first_spec.specs.Bundle.{bundle_part, schema_lines, param_lines, instruction_lines, value_word, given_line, kind_line, given_lines, config_lines, params_lines, bundle_lines, digits_among};
 
 use entry_tree::{ConfigEntry, ConfigKind, Encoding, Given, InstructionEntry, ParamEntry};
 use first_spec::FirstBundle;
-use idl_tree::{Lines, body_lines};
+use idl_print::body_lines;
 use std::alloc::Global;
-use udb_base::{Chars, Domain, Many, NoMemory, Value};
+use udb_base::{Chars, Domain, Lines, Many, NoMemory, Value, text_of_lines};
 
 fn line(alloc: Global, text: &str) -> Result<Chars, NoMemory>
     ensures { IfOk result (λ line. line ≡ text.now) }
@@ -26,7 +28,8 @@ fn labelled(alloc: Global, label: &str, text: &str) -> Result<Chars, NoMemory>
 }
 
 fn heading(alloc: Global, kind: &str, name: &str, count: usize) -> Result<Chars, NoMemory>
-    ensures { IfOk result (λ line. line ≡ codes "=== " ++ (kind.now ++ (32 ∷ name.now ++ (32 ∷ decimal count)))) }
+    ensures { IfOk result (λ line.
+        line ≡ codes "=== " ++ (kind.now ++ (32 ∷ name.now ++ (32 ∷ decimal count)))) }
 {
     Ok(Chars::from_string(format!(in alloc; "=== {kind} {name} {count}")?))
 }
@@ -150,23 +153,35 @@ pub fn lines_of_config(alloc: Global, config: &ConfigEntry) -> Result<Lines, NoM
     Ok(lines)
 }
 
-// The lines of an instruction up to its body.
-fn lines_before_body(alloc: Global, instruction: &InstructionEntry) -> Result<Lines, NoMemory>
-    ensures { IfOk result (λ lines. lines ≡ codes "kind: instruction" ∷ (codes "name: " ++ instruction.now.name) ∷ (codes "long_name: " ++ instruction.now.long_name) ∷ (codes "description: " ++ instruction.now.description) ∷ codes "assembly: \"\"" ∷ codes "encoding:" ∷ (codes "  match: " ++ digits_among instruction.now.encodings) ∷ codes "operation(): |" ∷ []) }
+fn lines_of_names(alloc: Global, instruction: &InstructionEntry) -> Result<Lines, NoMemory>
+    ensures { IfOk result (λ lines. lines ≡ name_lines instruction.now) }
 {
     let mut lines = Many::new(alloc);
     lines.push(line(alloc, "kind: instruction")?)?;
     lines.push(labelled(alloc, "name: ", instruction.name.as_str())?)?;
     lines.push(labelled(alloc, "long_name: ", instruction.long_name.as_str())?)?;
     lines.push(labelled(alloc, "description: ", instruction.description.as_str())?)?;
+    Ok(lines)
+}
+
+fn lines_of_encoding(alloc: Global, digits: &str) -> Result<Lines, NoMemory>
+    ensures { IfOk result (λ lines. lines ≡ encoding_lines digits.now) }
+{
+    let mut lines = Many::new(alloc);
     lines.push(line(alloc, "assembly: \"\"")?)?;
     lines.push(line(alloc, "encoding:")?)?;
-    lines.push(labelled(
-        alloc,
-        "  match: ",
-        match_digits(instruction.encodings.as_slice()),
-    )?)?;
+    lines.push(labelled(alloc, "  match: ", digits)?)?;
     lines.push(line(alloc, "operation(): |")?)?;
+    Ok(lines)
+}
+
+// The lines of an instruction up to its body.
+fn lines_before_body(alloc: Global, instruction: &InstructionEntry) -> Result<Lines, NoMemory>
+    ensures { IfOk result (λ lines. lines ≡ lines_before_body instruction.now) }
+{
+    let mut lines = lines_of_names(alloc, instruction)?;
+    let digits = match_digits(instruction.encodings.as_slice());
+    lines.append(lines_of_encoding(alloc, digits)?)?;
     Ok(lines)
 }
 
@@ -194,7 +209,8 @@ fn part(alloc: Global, kind: &str, name: &str, lines: Lines) -> Result<Lines, No
 }
 
 fn part_of_param(alloc: Global, param: &ParamEntry) -> Result<Lines, NoMemory>
-    ensures { IfOk result (λ part. part ≡ bundle_part (codes "parameter") param.now.name (param_lines param.now)) }
+    ensures { IfOk result (λ part.
+        part ≡ bundle_part (codes "parameter") param.now.name (param_lines param.now)) }
 {
     let lines = lines_of_param(alloc, param)?;
     part(alloc, "parameter", param.name.as_str(), lines)
@@ -211,14 +227,16 @@ fn parts_of_params(alloc: Global, params: &[ParamEntry]) -> Result<Lines, NoMemo
 }
 
 fn part_of_instruction(alloc: Global, entry: &InstructionEntry) -> Result<Lines, NoMemory>
-    ensures { IfOk result (λ part. part ≡ bundle_part (codes "instruction") entry.now.name (instruction_lines entry.now)) }
+    ensures { IfOk result (λ part.
+        part ≡ bundle_part (codes "instruction") entry.now.name (instruction_lines entry.now)) }
 {
     let lines = lines_of_instruction(alloc, entry)?;
     part(alloc, "instruction", entry.name.as_str(), lines)
 }
 
 fn part_of_config(alloc: Global, entry: &ConfigEntry) -> Result<Lines, NoMemory>
-    ensures { IfOk result (λ part. part ≡ bundle_part (codes "config") entry.now.name (config_lines entry.now)) }
+    ensures { IfOk result (λ part.
+        part ≡ bundle_part (codes "config") entry.now.name (config_lines entry.now)) }
 {
     let lines = lines_of_config(alloc, entry)?;
     part(alloc, "config", entry.name.as_str(), lines)
@@ -234,22 +252,10 @@ fn lines_of_bundle(alloc: Global, bundle: &FirstBundle) -> Result<Lines, NoMemor
     Ok(lines)
 }
 
-// Lines, each ended by a line feed.
-fn joined(alloc: Global, lines: &[Chars]) -> Result<Chars, NoMemory>
-    ensures { IfOk result (λ text. text ≡ text_of_lines lines.now) }
-{
-    let mut text = Chars::new(alloc);
-    for line in lines {
-        text.push_str(line.as_str())?;
-        text.push_str("\n")?;
-    }
-    Ok(text)
-}
-
 /// The text of a bundle.
 pub fn text_of_bundle(alloc: Global, bundle: &FirstBundle) -> Result<Chars, NoMemory>
     ensures { IfOk result (λ text. text ≡ text_of_lines (bundle_lines bundle.now)) }
 {
     let lines = lines_of_bundle(alloc, bundle)?;
-    joined(alloc, lines.as_slice())
+    text_of_lines(alloc, lines.as_slice())
 }

@@ -2,9 +2,10 @@
 
 ghost use Rattle.std.specs.Prelude.{◌≡◌, IfOk, IfSome, None, Some};
 ghost use Rattle.udb_spec.specs.Conditions.{same_bytes};
-ghost use Rattle.idl_tree.specs.Print.{text_of_lines};
+ghost use Rattle.udb_base.specs.Lines.{text_of_lines};
 ghost use Rattle.first_spec.specs.declared.bundle.FirstBundle.{FirstBundle};
-ghost use Rattle.first_spec.specs.Bundle.{bundle_lines, Spells};
+ghost use Rattle.first_spec.specs.Bundle.{bundle_lines, SpellsFirst};
+ghost use Rattle.first_bundle.specs.Laws.{OneBundle, SpellsNone};
 ghost use Rattle.first_bundle.specs.Checks.{is_spelled, if_spelled, spelled_by};
 
 use crate::checking::bundle_passes;
@@ -16,7 +17,8 @@ use std::alloc::Global;
 use udb_base::NoMemory;
 
 fn has_text(alloc: Global, bytes: &[u8], bundle: &FirstBundle) -> Result<bool, NoMemory>
-    ensures { IfOk result (λ has. has ≡ same_bytes (text_of_lines (bundle_lines bundle.now)) bytes.now) }
+    ensures { IfOk result (λ has.
+        has ≡ same_bytes (text_of_lines (bundle_lines bundle.now)) bytes.now) }
 {
     let text = text_of_bundle(alloc, bundle)?;
     Ok(text.as_bytes() == bytes)
@@ -54,12 +56,19 @@ fn spelled_by(alloc: Global, bytes: &[u8]) -> Result<Option<FirstBundle>, NoMemo
     }
 }
 
-/// The bundle of the first path that bytes spell, and `None` exactly where they spell none. Bytes
-/// spell at most one bundle. Any bytes are taken, in time and memory that grow with their number.
+/// Bytes spell at most one bundle. This is a law on the definitions, so it holds also where memory
+/// is short.
+pub fn one_bundle()
+    ensures { OneBundle }
+{}
+
+/// The bundle of the first path that bytes spell, and `None` exactly where they spell none. Any
+/// bytes are taken, in time and memory that grow with their number. The one refusal is want of
+/// memory.
 pub fn read_first(alloc: Global, bytes: &[u8]) -> Result<Option<FirstBundle>, NoMemory>
-    ensures found { IfOk result (λ o. IfSome o (Spells bytes.now)) }
-    ensures none { IfOk result (λ o. o ≡ None → (bundle : FirstBundle) → Spells bytes.now bundle → ⊥) }
-    ensures one { (bundle : FirstBundle) → Spells bytes.now bundle → IfOk result (λ o. o ≡ Some bundle) }
+    ensures found { IfOk result (λ o. IfSome o (SpellsFirst bytes.now)) }
+    ensures none { IfOk result (λ o. o ≡ None → SpellsNone bytes.now) }
+    ensures one { (x : FirstBundle) → SpellsFirst bytes.now x → IfOk result (λ o. o ≡ Some x) }
 {
     spelled_by(alloc, bytes)
 }

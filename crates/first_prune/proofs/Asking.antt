@@ -18,7 +18,7 @@ use Rattle.idl_spec.specs.Values.{flag}
 use Rattle.idl_spec.specs.Mean.{value, answered, mean_expr, parameter, unary, with_value}
 use Rattle.idl_spec.specs.MeanLaws.{mean-Word, mean-Unary}
 use Rattle.idl_spec.specs.Formulas.{claims, claims_unary, of_formula, unknown, is_flag_parameter, flag_among}
-use Rattle.idl_spec.specs.PlaceLaws.{claims-Word, claims-Unary}
+use Rattle.idl_spec.specs.TestPlaceLaws.{claims-Word, claims-Unary}
 use Rattle.entry_tree.specs.declared.ParamEntry.{ParamEntry}
 use Rattle.first_spec.specs.Bundle.{IsTest, switch, not_switch, is_flags, is_switch_name}
 use Rattle.manual_spec.specs.Entries.{param_space}

@@ -2,7 +2,7 @@
 use Rattle.std.proofs.Common.{◌≡◌, ◌++◌, ℕ, suc, Bool, true, false, not, List, [], ◌∷◌, map, refl, ap, sym, ◌∙◌, subst, Option, None, Some, inl, inr, append_assoc, append-nil}
 use Rattle.std.specs.Prelude.{All, IfSome}
 use Rattle.std.specs.Option.{option_map}
-use Rattle.std.proofs.lemmas.List.Elements.{All-nil, All-cons, All-append, All-contains}
+use Rattle.std.proofs.lemmas.List.Elements.{All-nil, All-cons, All-head, All-tail, All-append, All-contains}
 use Rattle.udb_base.specs.declared.conditions.Cond.{Cond}
 use Rattle.udb_base.specs.declared.conditions.Cond.TheVariants as c
 use Rattle.udb_base.specs.declared.conditions.Value.{Value}
@@ -22,14 +22,14 @@ use Rattle.idl_tree.specs.declared.statements.Target.TheVariants as t
 use Rattle.idl_tree.specs.declared.statements.Stmt.{Stmt}
 use Rattle.idl_tree.specs.declared.statements.Stmt.TheVariants as s
 use Rattle.idl_spec.specs.Formulas.{Claims, claims, of_formula}
-use Rattle.idl_spec.specs.Places.{Place, Places, place, places, expr_places, stmt_places, other_places, if_places}
-use Rattle.idl_spec.specs.PlaceLaws.{places-Number, places-Sized, places-Word, places-Unary, places-Binary, places-Register, places-Assign, places-Block, places-If}
+use Rattle.idl_spec.specs.TestPlaces.{TestPlace, TestPlaces, place, test_places, expr_places, stmt_places, other_places, if_places}
+use Rattle.idl_spec.specs.TestPlaceLaws.{places-Number, places-Sized, places-Word, places-Unary, places-Binary, places-Register, places-Assign, places-Block, places-If}
 use Rattle.idl_spec.specs.Words.{words, expr_words, stmt_words, other_words}
 use Rattle.idl_spec.specs.WordLaws.{words-width-Number, words-Number, words-Sized, words-Word, words-Unary, words-Binary, words-Register, words-Assign, words-Block, words-If}
 use Rattle.entry_tree.specs.declared.ParamEntry.{ParamEntry}
 use Rattle.entry_tree.specs.declared.Given.{Given}
 use Rattle.first_spec.specs.Bundle.{IsValue, literal, register, plus_literal, plus_register, IsTest, switch, not_switch, IsParam, IsGiven, Rise, IsStatement, assign, block, when, either, AreStatements, none, more, is_switch_name}
-use Rattle.manual_spec.specs.Settled.{HasOneValue, Meets, IsAlways, IsDecided, IsOpen, NoLiteral, SettledBody}
+use Rattle.manual_spec.specs.Settled.{HasOneValue, MeetsContext, IsAlways, IsDecided, IsOpen, NoLiteral, CompletesWith, SettledBody}
 use Rattle.first_prune.specs.Known.{Known, look, known_of, completion_with}
 use Rattle.first_prune.specs.Pruning.{prunes, pruned, pruned_one, pruned_if, known_truth, known_after, truth_under, truth-Word, truth-Unary, pruned-Assign, pruned-Block, pruned-If}
 use Rattle.first_prune.proofs.Worlds.{chosen_true, chosen_false, same_so, same_itself, space_with, part_with, Agrees, Extends, made_completes, made_agrees}
@@ -43,36 +43,36 @@ value_words _ (register n l) = words-Register (e.Number n) ∙ words-Number n
 value_words _ (plus_literal n k l m) = rw (words-Binary Add (e.Register (e.Number n)) (e.Sized (w.Number 32) false k), words-Register (e.Number n), words-Number n, words-Sized (w.Number 32) false k, words-width-Number 32) refl
 value_words _ (plus_register n m l k) = rw (words-Binary Add (e.Register (e.Number n)) (e.Register (e.Number m)), words-Register (e.Number n), words-Number n, words-Register (e.Number m), words-Number m) refl
 
-value_places : (space : Space) (x : Expr) → IsValue x → (context : List Cond) → expr_places space x context ≡ []
-value_places space _ (literal k l) context = ap (λ f. f context) (places-Sized space (w.Number 32) false k)
-value_places space _ (register n l) context = ap (λ f. f context) (places-Register space (e.Number n) ∙ places-Number space n)
-value_places space _ (plus_literal n k l m) context = rw (places-Binary space Add (e.Register (e.Number n)) (e.Sized (w.Number 32) false k), places-Register space (e.Number n), places-Number space n, places-Sized space (w.Number 32) false k) refl
-value_places space _ (plus_register n m l k) context = rw (places-Binary space Add (e.Register (e.Number n)) (e.Register (e.Number m)), places-Register space (e.Number n), places-Number space n, places-Register space (e.Number m), places-Number space m) refl
+value_places : (space : Space) (x : Expr) → IsValue x → (context : List Cond) → expr_places space [] x context ≡ []
+value_places space _ (literal k l) context = ap (λ f. f context) (places-Sized space [] (w.Number 32) false k)
+value_places space _ (register n l) context = ap (λ f. f context) (places-Register space [] (e.Number n) ∙ places-Number space [] n)
+value_places space _ (plus_literal n k l m) context = rw (places-Binary space [] Add (e.Register (e.Number n)) (e.Sized (w.Number 32) false k), places-Register space [] (e.Number n), places-Number space [] n, places-Sized space [] (w.Number 32) false k) refl
+value_places space _ (plus_register n m l k) context = rw (places-Binary space [] Add (e.Register (e.Number n)) (e.Register (e.Number m)), places-Register space [] (e.Number n), places-Number space [] n, places-Register space [] (e.Number m), places-Number space [] m) refl
 
 assign_words : (n : ℕ) (x : Expr) → IsValue x → words (s.Assign (t.Register (e.Number n)) x ∷ []) ≡ []
 assign_words n x v = rw (words-Assign (t.Register (e.Number n)) x, words-Number n, value_words x v) refl
 
-assign_places : (space : Space) (n : ℕ) (x : Expr) → IsValue x → (context : List Cond) → places space (s.Assign (t.Register (e.Number n)) x ∷ []) context ≡ []
-assign_places space n x v context = rw (places-Assign space (t.Register (e.Number n)) x, places-Number space n, value_places space x v context) refl
+assign_places : (space : Space) (n : ℕ) (x : Expr) → IsValue x → (context : List Cond) → test_places space [] (s.Assign (t.Register (e.Number n)) x ∷ []) context ≡ []
+assign_places space n x v context = rw (places-Assign space [] (t.Register (e.Number n)) x, places-Number space [] n, value_places space x v context) refl
 
 -- ---- words and places of statements side by side
 
-places-append : (space : Space) (a b : List Stmt) (context : List Cond) → places space (a ++ b) context ≡ places space a context ++ places space b context
+places-append : (space : Space) (a b : List Stmt) (context : List Cond) → test_places space [] (a ++ b) context ≡ test_places space [] a context ++ test_places space [] b context
 places-append space [] b context = refl
-places-append space (x ∷ xs) b context = ap (λ (ps : List Place). stmt_places space x context ++ ps) (places-append space xs b context) ∙ sym (append_assoc (stmt_places space x context) (places space xs context) (places space b context))
+places-append space (x ∷ xs) b context = ap (λ (ps : List TestPlace). stmt_places space [] x context ++ ps) (places-append space xs b context) ∙ sym (append_assoc (stmt_places space [] x context) (test_places space [] xs context) (test_places space [] b context))
 
 words-append : (a b : List Stmt) → words (a ++ b) ≡ words a ++ words b
 words-append [] b = refl
 words-append (x ∷ xs) b = ap (λ (ws : List (List ℕ)). stmt_words x ++ ws) (words-append xs b) ∙ sym (append_assoc (stmt_words x) (words xs) (words b))
 
-block_places : (space : Space) (xs : List Stmt) (context : List Cond) → places space (s.Block xs ∷ []) context ≡ places space xs context
-block_places space xs context = append-nil (stmt_places space (s.Block xs) context) ∙ ap (λ (p : Places). p context) (places-Block space xs)
+block_places : (space : Space) (xs : List Stmt) (context : List Cond) → test_places space [] (s.Block xs ∷ []) context ≡ test_places space [] xs context
+block_places space xs context = append-nil (stmt_places space [] (s.Block xs) context) ∙ ap (λ (p : TestPlaces). p context) (places-Block space [] xs)
 
 block_words : (xs : List Stmt) → words (s.Block xs ∷ []) ≡ words xs
 block_words xs = append-nil (stmt_words (s.Block xs)) ∙ words-Block xs
 
-if_places_are : (space : Space) (test : Expr) (taken : List Stmt) (other : Option (List Stmt)) (context : List Cond) → places space (s.If test taken other ∷ []) context ≡ if_places space test (map (stmt_places space) taken) (option_map (map (stmt_places space)) other) context
-if_places_are space test taken other context = append-nil (stmt_places space (s.If test taken other) context) ∙ ap (λ (p : Places). p context) (places-If space test taken other)
+if_places_are : (space : Space) (test : Expr) (taken : List Stmt) (other : Option (List Stmt)) (context : List Cond) → test_places space [] (s.If test taken other ∷ []) context ≡ if_places space [] test (map (stmt_places space []) taken) (option_map (map (stmt_places space [])) other) context
+if_places_are space test taken other context = append-nil (stmt_places space [] (s.If test taken other) context) ∙ ap (λ (p : TestPlaces). p context) (places-If space [] test taken other)
 
 if_words_are : (test : Expr) (taken : List Stmt) (other : Option (List Stmt)) → words (s.If test taken other ∷ []) ≡ expr_words test ++ (words taken ++ other_words (option_map (map stmt_words) other))
 if_words_are test taken other = append-nil (stmt_words (s.If test taken other)) ∙ words-If test taken other
@@ -85,65 +85,65 @@ Free space part name = HasOneValue space part name → ⊥
 
 pub record Settles (space : Space) (part : Partial) (context : List Cond) (statements : List Stmt) : Type 0 where
   pub named : All (Free space part) (words statements)
-  pub opened : All (IsOpen space part) (places space statements context)
-  pub no_literal : All NoLiteral (places space statements context)
+  pub opened : All (IsOpen space (Completes space part)) (test_places space [] statements context)
+  pub no_literal : All NoLiteral (test_places space [] statements context)
 
 -- a completion that meets the context in which the condition has the truth value
 record IsWorld (space : Space) (part : Partial) (context : List Cond) (x : Cond) (answer : Bool) : Type 0 where
   full : Full
   completes : Completes space part full
-  meets : Meets space full context
+  meets : MeetsContext space full context
   says : holds space full x ≡ answer
 
-undecided : (space : Space) (part : Partial) (context : List Cond) (x : Cond) → ((b : Bool) → IsWorld space part context x b) → IsDecided space part context x → ⊥
+undecided : (space : Space) (part : Partial) (context : List Cond) (x : Cond) → ((b : Bool) → IsWorld space part context x b) → IsDecided space (Completes space part) context x → ⊥
 undecided space part context x worlds (inl h) = at (worlds false) h
   where
-    at : (world : IsWorld space part context x false) → IsAlways space part context x true → ⊥
+    at : (world : IsWorld space part context x false) → IsAlways space (Completes space part) context x true → ⊥
     at world h = differ (holds space world.full x) world.says (h world.full world.completes world.meets)
       where
         differ : (b : Bool) → b ≡ false → b ≡ true → ⊥
         differ b f g = cc
 undecided space part context x worlds (inr h) = at (worlds true) h
   where
-    at : (world : IsWorld space part context x true) → IsAlways space part context x false → ⊥
+    at : (world : IsWorld space part context x true) → IsAlways space (Completes space part) context x false → ⊥
     at world h = differ (holds space world.full x) world.says (h world.full world.completes world.meets)
       where
         differ : (b : Bool) → b ≡ true → b ≡ false → ⊥
         differ b f g = cc
 
-open_place : (space : Space) (part : Partial) (context : List Cond) (test : Expr) (x : Cond) → claims space test ≡ of_formula x → ((b : Bool) → IsWorld space part context x b) → IsOpen space part (place context test)
-open_place space part context test x is worlds = λ l. subst (λ (k : Claims). IfSome k.formula (λ y. IsDecided space part context y → ⊥)) (sym is) (undecided space part context x worlds)
+open_place : (space : Space) (part : Partial) (context : List Cond) (test : Expr) (x : Cond) → claims space test ≡ of_formula x → ((b : Bool) → IsWorld space part context x b) → IsOpen space (Completes space part) (place context test)
+open_place space part context test x is worlds = λ l. subst (λ (k : Claims). IfSome k.formula (λ y. IsDecided space (Completes space part) context y → ⊥)) (sym is) (undecided space part context x worlds)
 
 module _ (space : Space) (part : Partial) (context : List Cond) where
   settles_nil : Settles space part context []
-  settles_nil = record { named = All-nil (Free space part); opened = All-nil (IsOpen space part); no_literal = All-nil NoLiteral }
+  settles_nil = record { named = All-nil (Free space part); opened = All-nil (IsOpen space (Completes space part)); no_literal = All-nil NoLiteral }
 
   settles_append : (a b : List Stmt) → Settles space part context a → Settles space part context b → Settles space part context (a ++ b)
   settles_append a b h k = record {
     named = subst (All (Free space part)) (sym (words-append a b)) (All-append (Free space part) (words a) (words b) h.named k.named);
-    opened = subst (All (IsOpen space part)) (sym (places-append space a b context)) (All-append (IsOpen space part) (places space a context) (places space b context) h.opened k.opened);
-    no_literal = subst (All NoLiteral) (sym (places-append space a b context)) (All-append NoLiteral (places space a context) (places space b context) h.no_literal k.no_literal);
+    opened = subst (All (IsOpen space (Completes space part))) (sym (places-append space a b context)) (All-append (IsOpen space (Completes space part)) (test_places space [] a context) (test_places space [] b context) h.opened k.opened);
+    no_literal = subst (All NoLiteral) (sym (places-append space a b context)) (All-append NoLiteral (test_places space [] a context) (test_places space [] b context) h.no_literal k.no_literal);
   }
 
   settles_block : (xs : List Stmt) → Settles space part context xs → Settles space part context (s.Block xs ∷ [])
   settles_block xs h = record {
     named = subst (All (Free space part)) (sym (block_words xs)) h.named;
-    opened = subst (All (IsOpen space part)) (sym (block_places space xs context)) h.opened;
+    opened = subst (All (IsOpen space (Completes space part))) (sym (block_places space xs context)) h.opened;
     no_literal = subst (All NoLiteral) (sym (block_places space xs context)) h.no_literal;
   }
 
   settles_assign : (n : ℕ) (x : Expr) → IsValue x → Settles space part context (s.Assign (t.Register (e.Number n)) x ∷ [])
   settles_assign n x v = record {
     named = subst (All (Free space part)) (sym (assign_words n x v)) (All-nil (Free space part));
-    opened = subst (All (IsOpen space part)) (sym (assign_places space n x v context)) (All-nil (IsOpen space part));
+    opened = subst (All (IsOpen space (Completes space part))) (sym (assign_places space n x v context)) (All-nil (IsOpen space (Completes space part)));
     no_literal = subst (All NoLiteral) (sym (assign_places space n x v context)) (All-nil NoLiteral);
   }
 
   -- a test by itself
   record SettlesTest (test : Expr) : Type 0 where
     free : All (Free space part) (expr_words test)
-    opens : All (IsOpen space part) (place context test ∷ expr_places space test context)
-    plain : All NoLiteral (place context test ∷ expr_places space test context)
+    opens : All (IsOpen space (Completes space part)) (place context test ∷ expr_places space [] test context)
+    plain : All NoLiteral (place context test ∷ expr_places space [] test context)
 
 abbrev SettlesAny : Space → Partial → List Cond → Option (List Stmt) → Type 0
 SettlesAny space part context None = Unit {0}
@@ -153,11 +153,11 @@ other_free : (space : Space) (part : Partial) (context : List Cond) (other : Opt
 other_free space part context None h = All-nil (Free space part)
 other_free space part context (Some xs) h = h.named
 
-other_open : (space : Space) (part : Partial) (context : List Cond) (other : Option (List Stmt)) → SettlesAny space part context other → All (IsOpen space part) (other_places (option_map (map (stmt_places space)) other) context)
-other_open space part context None h = All-nil (IsOpen space part)
+other_open : (space : Space) (part : Partial) (context : List Cond) (other : Option (List Stmt)) → SettlesAny space part context other → All (IsOpen space (Completes space part)) (other_places (option_map (map (stmt_places space [])) other) context)
+other_open space part context None h = All-nil (IsOpen space (Completes space part))
 other_open space part context (Some xs) h = h.opened
 
-other_plain : (space : Space) (part : Partial) (context : List Cond) (other : Option (List Stmt)) → SettlesAny space part context other → All NoLiteral (other_places (option_map (map (stmt_places space)) other) context)
+other_plain : (space : Space) (part : Partial) (context : List Cond) (other : Option (List Stmt)) → SettlesAny space part context other → All NoLiteral (other_places (option_map (map (stmt_places space [])) other) context)
 other_plain space part context None h = All-nil NoLiteral
 other_plain space part context (Some xs) h = h.no_literal
 
@@ -165,17 +165,17 @@ settles_if : (space : Space) (part : Partial) (context : List Cond) (test : Expr
 settles_if space part context test taken other h k l =
     let inner : List Cond = context ++ (claims space test).when_true ∷ [] in
     let outer : List Cond = context ++ (claims space test).when_false ∷ [] in
-    let rest : List Place = other_places (option_map (map (stmt_places space)) other) outer in
+    let rest : List TestPlace = other_places (option_map (map (stmt_places space [])) other) outer in
     record {
       named = subst (All (Free space part)) (sym (if_words_are test taken other))
           (All-append (Free space part) (expr_words test) (words taken ++ other_words (option_map (map stmt_words) other)) h.free
           (All-append (Free space part) (words taken) (other_words (option_map (map stmt_words) other)) k.named (other_free space part outer other l)));
-      opened = subst (All (IsOpen space part)) (sym (if_places_are space test taken other context))
-          (All-append (IsOpen space part) (place context test ∷ expr_places space test context) (places space taken inner ++ rest) h.opens
-          (All-append (IsOpen space part) (places space taken inner) rest k.opened (other_open space part outer other l)));
+      opened = subst (All (IsOpen space (Completes space part))) (sym (if_places_are space test taken other context))
+          (All-append (IsOpen space (Completes space part)) (place context test ∷ expr_places space [] test context) (test_places space [] taken inner ++ rest) h.opens
+          (All-append (IsOpen space (Completes space part)) (test_places space [] taken inner) rest k.opened (other_open space part outer other l)));
       no_literal = subst (All NoLiteral) (sym (if_places_are space test taken other context))
-          (All-append NoLiteral (place context test ∷ expr_places space test context) (places space taken inner ++ rest) h.plain
-          (All-append NoLiteral (places space taken inner) rest k.no_literal (other_plain space part outer other l)));
+          (All-append NoLiteral (place context test ∷ expr_places space [] test context) (test_places space [] taken inner ++ rest) h.plain
+          (All-append NoLiteral (test_places space [] taken inner) rest k.no_literal (other_plain space part outer other l)));
     }
 
 -- ---- contexts and what is known in them
@@ -209,7 +209,7 @@ module _ (params : List ParamEntry) (is_params : All IsParam params) (givens : L
   -- all given values are known, and what is known makes the context true
   pub record Fits (known : Known) (context : List Cond) : Type 0 where
     pub keeps : Extends givens known
-    pub meets : (full : Full) → Completes (space_with params) (part_with givens) full → Agrees params full known → Meets (space_with params) full context
+    pub meets : (full : Full) → Completes (space_with params) (part_with givens) full → Agrees params full known → MeetsContext (space_with params) full context
 
   extends_more : (known : Known) (name : List ℕ) (b : Bool) → look known name ≡ None → Extends givens known → Extends givens ((name, b) ∷ known)
   extends_more known name b l k = record { extends = λ other x h. look_more known name b l other x (k.extends other x h) }
@@ -218,7 +218,7 @@ module _ (params : List ParamEntry) (is_params : All IsParam params) (givens : L
   record NameWorld (known : Known) (context : List Cond) (name : List ℕ) (b : Bool) : Type 0 where
     full : Full
     completes : Completes (space_with params) (part_with givens) full
-    meets : Meets (space_with params) full context
+    meets : MeetsContext (space_with params) full context
     has : value_of (space_with params) full name ≡ Some (v.Flag b)
 
   name_world : (known : Known) (context : List Cond) → Fits known context → (name : List ℕ) → is_switch_name params name ≡ true → look known name ≡ None → (b : Bool) → NameWorld known context name b
@@ -259,7 +259,7 @@ module _ (params : List ParamEntry) (is_params : All IsParam params) (givens : L
   no_flag context _ (switch name h) = λ x is. absurd (cc)
   no_flag context _ (not_switch name h) = λ x is. absurd (cc)
 
-  one_open : (known : Known) (context : List Cond) → Fits known context → (test : Expr) → IsTest params test → known_truth known test ≡ None → IsOpen (space_with params) (part_with givens) (place context test)
+  one_open : (known : Known) (context : List Cond) → Fits known context → (test : Expr) → IsTest params test → known_truth known test ≡ None → IsOpen (space_with params) (Completes (space_with params) (part_with givens)) (place context test)
   one_open known context fits test is_test h =
       let a : Asks params test = asks params test is_test in
       open_place (space_with params) (part_with givens) context test a.formula a.claimed (test_world known context fits test a (unknown_name known test a h))
@@ -267,13 +267,13 @@ module _ (params : List ParamEntry) (is_params : All IsParam params) (givens : L
   settles_test : (known : Known) (context : List Cond) → Fits known context → (test : Expr) → IsTest params test → known_truth known test ≡ None → SettlesTest (space_with params) (part_with givens) context test
   settles_test known context fits _ (switch name h) l =
       let free : Free (space_with params) (part_with givens) name = free_name known context fits name h (sym (truth-Word known name) ∙ l) in
-      let none_inside : expr_places (space_with params) (e.Word name) context ≡ [] = ap (λ (p : Places). p context) (places-Word (space_with params) name) in
+      let none_inside : expr_places (space_with params) [] (e.Word name) context ≡ [] = ap (λ (p : TestPlaces). p context) (places-Word (space_with params) [] name) in
       record {
         free = subst (All (Free (space_with params) (part_with givens))) (sym (words-Word name)) (All-cons (Free (space_with params) (part_with givens)) name [] free (All-nil (Free (space_with params) (part_with givens))));
-        opens = All-cons (IsOpen (space_with params) (part_with givens)) (place context (e.Word name)) (expr_places (space_with params) (e.Word name) context)
+        opens = All-cons (IsOpen (space_with params) (Completes (space_with params) (part_with givens))) (place context (e.Word name)) (expr_places (space_with params) [] (e.Word name) context)
             (one_open known context fits (e.Word name) (switch name h) l)
-            (subst (All (IsOpen (space_with params) (part_with givens))) (sym none_inside) (All-nil (IsOpen (space_with params) (part_with givens))));
-        plain = All-cons NoLiteral (place context (e.Word name)) (expr_places (space_with params) (e.Word name) context)
+            (subst (All (IsOpen (space_with params) (Completes (space_with params) (part_with givens)))) (sym none_inside) (All-nil (IsOpen (space_with params) (Completes (space_with params) (part_with givens)))));
+        plain = All-cons NoLiteral (place context (e.Word name)) (expr_places (space_with params) [] (e.Word name) context)
             (no_flag context (e.Word name) (switch name h))
             (subst (All NoLiteral) (sym none_inside) (All-nil NoLiteral));
       }
@@ -282,16 +282,16 @@ module _ (params : List ParamEntry) (is_params : All IsParam params) (givens : L
       let word_unknown : known_truth known (e.Word name) ≡ None = none_under (known_truth known (e.Word name)) (sym (truth-Unary known u.Not (e.Word name)) ∙ l) in
       let unknown : look known name ≡ None = sym (truth-Word known name) ∙ word_unknown in
       let free : Free (space_with params) (part_with givens) name = free_name known context fits name h unknown in
-      let inside : expr_places (space_with params) test context ≡ place context (e.Word name) ∷ [] =
-      ap (λ (p : Places). p context) (places-Unary (space_with params) u.Not (e.Word name))
-      ∙ ap (λ (ps : List Place). place context (e.Word name) ∷ ps) (ap (λ (p : Places). p context) (places-Word (space_with params) name)) in
+      let inside : expr_places (space_with params) [] test context ≡ place context (e.Word name) ∷ [] =
+      ap (λ (p : TestPlaces). p context) (places-Unary (space_with params) [] u.Not (e.Word name))
+      ∙ ap (λ (ps : List TestPlace). place context (e.Word name) ∷ ps) (ap (λ (p : TestPlaces). p context) (places-Word (space_with params) [] name)) in
       record {
         free = subst (All (Free (space_with params) (part_with givens))) (sym (words-Unary u.Not (e.Word name) ∙ words-Word name)) (All-cons (Free (space_with params) (part_with givens)) name [] free (All-nil (Free (space_with params) (part_with givens))));
-        opens = All-cons (IsOpen (space_with params) (part_with givens)) (place context test) (expr_places (space_with params) test context)
+        opens = All-cons (IsOpen (space_with params) (Completes (space_with params) (part_with givens))) (place context test) (expr_places (space_with params) [] test context)
             (one_open known context fits test (not_switch name h) l)
-            (subst (All (IsOpen (space_with params) (part_with givens))) (sym inside)
-            (All-cons (IsOpen (space_with params) (part_with givens)) (place context (e.Word name)) [] (one_open known context fits (e.Word name) (switch name h) word_unknown) (All-nil (IsOpen (space_with params) (part_with givens)))));
-        plain = All-cons NoLiteral (place context test) (expr_places (space_with params) test context)
+            (subst (All (IsOpen (space_with params) (Completes (space_with params) (part_with givens)))) (sym inside)
+            (All-cons (IsOpen (space_with params) (Completes (space_with params) (part_with givens))) (place context (e.Word name)) [] (one_open known context fits (e.Word name) (switch name h) word_unknown) (All-nil (IsOpen (space_with params) (Completes (space_with params) (part_with givens))))));
+        plain = All-cons NoLiteral (place context test) (expr_places (space_with params) [] test context)
             (no_flag context test (not_switch name h))
             (subst (All NoLiteral) (sym inside) (All-cons NoLiteral (place context (e.Word name)) [] (no_flag context (e.Word name) (switch name h)) (All-nil NoLiteral)));
       }
@@ -373,11 +373,31 @@ module _ (params : List ParamEntry) (is_params : All IsParam params) (givens : L
   fits_first : Fits (known_of givens) []
   fits_first = record { keeps = record { extends = λ name b h. h }; meets = λ full complete agree. All-nil (λ y. holds (space_with params) full y ≡ true) }
 
-  pub body_settles : (depth : ℕ) (xs : List Stmt) → AreStatements params depth xs → SettledBody (space_with params) (part_with givens) (pruned (known_of givens) xs)
-  body_settles depth xs are =
-      let h : SettlesIn [] (pruned (known_of givens) xs) = all_settle depth xs are (known_of givens) [] fits_first in
-      record {
-        parameters = λ k d l named one. All-contains (Free (space_with params) (part_with givens)) (words (pruned (known_of givens) xs)) _ h.named named one;
-        tests = h.opened;
-        literals = h.no_literal;
-      }
+  -- every completion has the entry, so that what is decided in those that have it is decided in all
+  module _ (Has : Full → Type 0) (has : (full : Full) → Has full) where
+    abbrev WithEntry : Full → Type 0
+    WithEntry = CompletesWith (space_with params) (part_with givens) Has
+
+    decided_in_all : (context : List Cond) (x : Cond) → IsDecided (space_with params) WithEntry context x → IsDecided (space_with params) (Completes (space_with params) (part_with givens)) context x
+    decided_in_all context x (inl h) = inl (λ full complete meets. h full (complete, has full) meets)
+    decided_in_all context x (inr h) = inr (λ full complete meets. h full (complete, has full) meets)
+
+    open_formula : (context : List Cond) (formula : Option Cond) → IfSome formula (λ x. IsDecided (space_with params) (Completes (space_with params) (part_with givens)) context x → ⊥) → IfSome formula (λ x. IsDecided (space_with params) WithEntry context x → ⊥)
+    open_formula context None h = h
+    open_formula context (Some x) h = λ d. h (decided_in_all context x d)
+
+    all_open : (ps : List TestPlace) → All (IsOpen (space_with params) (Completes (space_with params) (part_with givens))) ps → All (IsOpen (space_with params) WithEntry) ps
+    all_open [] h = All-nil (IsOpen (space_with params) WithEntry)
+    all_open (p ∷ ps) h =
+        All-cons (IsOpen (space_with params) WithEntry) p ps
+        (λ l. open_formula p.context (claims (space_with params) p.test).formula (All-head (IsOpen (space_with params) (Completes (space_with params) (part_with givens))) p ps h l))
+        (all_open ps (All-tail (IsOpen (space_with params) (Completes (space_with params) (part_with givens))) p ps h))
+
+    pub body_settles : (depth : ℕ) (xs : List Stmt) → AreStatements params depth xs → SettledBody (space_with params) (part_with givens) Has [] (pruned (known_of givens) xs)
+    body_settles depth xs are =
+        let h : SettlesIn [] (pruned (known_of givens) xs) = all_settle depth xs are (known_of givens) [] fits_first in
+        record {
+          parameters = λ k d l named one. All-contains (Free (space_with params) (part_with givens)) (words (pruned (known_of givens) xs)) _ h.named named one;
+          tests = all_open (test_places (space_with params) [] (pruned (known_of givens) xs) []) h.opened;
+          literals = h.no_literal;
+        }

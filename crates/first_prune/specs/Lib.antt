@@ -1,3 +1,4 @@
 pub mod Known
 pub mod Pruning
 pub mod Facts
+pub mod Bundles

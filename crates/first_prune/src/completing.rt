@@ -1,10 +1,9 @@
 //! The completion that a manual shows.
 
 ghost use Rattle.std.specs.Prelude.{◌≡◌, IfOk};
-ghost use Rattle.udb_spec.specs.Spaces.{Completes};
 ghost use Rattle.first_spec.specs.Bundle.{IsFirst};
-ghost use Rattle.manual_spec.specs.Entries.{space_of};
-ghost use Rattle.first_prune.specs.Known.{known_of, flag_of, value_with, completion_with, entries_of, partial_of};
+ghost use Rattle.first_prune.specs.Bundles.{completion_of, CompletesFirst};
+ghost use Rattle.first_prune.specs.Known.{known_of, flag_of, value_with, completion_with};
 
 use crate::facts::look_given;
 use entry_tree::{Given, ParamEntry};
@@ -36,7 +35,7 @@ fn value_with(givens: &[Given], param: &ParamEntry) -> Value
 }
 
 /// The full configuration in which each Boolean parameter has its given value, or else is false,
-/// and each other parameter is 32.
+/// and each other parameter is 32. The one refusal is want of memory.
 pub fn completion(alloc: Global, params: &[ParamEntry], givens: &[Given]) -> Result<Full, NoMemory>
     ensures { IfOk result (λ full. full ≡ completion_with (known_of givens.now) params.now) }
 {
@@ -50,13 +49,14 @@ pub fn completion(alloc: Global, params: &[ParamEntry], givens: &[Given]) -> Res
     })
 }
 
-/// The completion that the manual of a bundle's configuration shows.
+/// The completion that the manual of a bundle's configuration shows. The one refusal is want of
+/// memory.
 #[tactic(auto, using(crate::proofs::Shown::completes))]
 pub fn complete_bundle(alloc: Global, bundle: &FirstBundle) -> Result<Full, NoMemory>
-    ensures made { IfOk result (λ full. full ≡ completion_with (known_of bundle.now.config.params) bundle.now.params) }
+    ensures made { IfOk result (λ full. full ≡ completion_of bundle.now) }
 
     // It completes the configuration of any bundle of the first path.
-    ensures completes { IfOk result (λ full. IsFirst bundle.now → Completes (space_of (entries_of bundle.now)) (partial_of bundle.now.config) full) }
+    ensures completes { IfOk result (λ full. IsFirst bundle.now → CompletesFirst bundle.now full) }
 {
     let params = bundle.params.as_slice();
     let givens = bundle.config.params.as_slice();

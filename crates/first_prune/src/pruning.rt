@@ -3,24 +3,23 @@
 ghost use Rattle.std.specs.Prelude.{◌≡◌, ◌++◌, ◌∷◌, [], IfOk, OnOk};
 ghost use Rattle.idl_tree.specs.declared.statements.Stmt.TheVariants as v;
 ghost use Rattle.first_spec.specs.Bundle.{IsFirst};
-ghost use Rattle.manual_spec.specs.Entries.{space_of};
-ghost use Rattle.manual_spec.specs.Faithful.{KeepsMean};
-ghost use Rattle.manual_spec.specs.Settled.{SettledBody};
-ghost use Rattle.first_prune.specs.Known.{known_of, entries_of, partial_of};
+ghost use Rattle.first_prune.specs.Bundles.{shown_of, KeepsFirst, SettlesFirst};
+ghost use Rattle.first_prune.specs.Known.{known_of};
 ghost use Rattle.first_prune.specs.Facts.{facts_of};
 ghost use Rattle.first_prune.specs.Pruning.{pruned, pruned_one};
 
 use crate::facts::{Facts, known_after, known_truth};
 use entry_tree::Given;
 use first_spec::FirstBundle;
+use idl_copy::{copy_expression, copy_statement};
 use idl_tree::{Expr, Stmt, Stmts};
 use std::alloc::Global;
-use udb_base::{Copied, Many, NoMemory};
+use udb_base::{Many, NoMemory};
 
 fn push_copy(alloc: Global, shown: &mut Stmts, statement: &Stmt) -> Result<(), NoMemory>
     ensures { OnOk result (shown.new ≡ shown.old ++ statement.now ∷ []) }
 {
-    shown.push(statement.copy(alloc)?)?;
+    shown.push(copy_statement(alloc, statement)?)?;
     Ok(())
 }
 
@@ -40,7 +39,7 @@ fn push_if(
 ) -> Result<(), NoMemory>
     ensures { OnOk result (shown.new ≡ shown.old ++ v.If test.now yes no ∷ []) }
 {
-    let test = test.copy(alloc)?;
+    let test = copy_expression(alloc, test)?;
     shown.push(Stmt::If { test, yes, no })?;
     Ok(())
 }
@@ -104,23 +103,23 @@ fn prune_all(alloc: Global, statements: &[Stmt], facts: &Facts) -> Result<Stmts,
 }
 
 /// What is shown of statements where values are given: each `if` that they and the tests round it
-/// decide is the block that is taken, or nothing.
+/// decide is the block that is taken, or nothing. The one refusal is want of memory.
 pub fn prune(alloc: Global, givens: &[Given], statements: &[Stmt]) -> Result<Stmts, NoMemory>
     ensures { IfOk result (λ shown. shown ≡ pruned (known_of givens.now) statements.now) }
 {
     prune_all(alloc, statements, &Facts::Given(givens))
 }
 
-/// What a manual shows of the body of a bundle's instruction.
+/// What a manual shows of the body of a bundle's instruction. The one refusal is want of memory.
 pub fn prune_bundle(alloc: Global, bundle: &FirstBundle) -> Result<Stmts, NoMemory>
-    ensures pruned { IfOk result (λ shown. shown ≡ pruned (known_of bundle.now.config.params) bundle.now.instruction.operation.statements) }
+    ensures pruned { IfOk result (λ shown. shown ≡ shown_of bundle.now) }
 
     // In every completion that has the instruction, and from every state, it has the outcome of the
     // whole body, which is never stuck.
-    ensures keeps { IfOk result (λ shown. IsFirst bundle.now → KeepsMean (space_of (entries_of bundle.now)) (partial_of bundle.now.config) bundle.now.instruction shown) }
+    ensures keeps { IfOk result (λ shown. IsFirst bundle.now → KeepsFirst bundle.now shown) }
 
     // No test is decided where it stands, and no parameter with one value is named.
-    ensures settles { IfOk result (λ shown. IsFirst bundle.now → SettledBody (space_of (entries_of bundle.now)) (partial_of bundle.now.config) shown) }
+    ensures settles { IfOk result (λ shown. IsFirst bundle.now → SettlesFirst bundle.now shown) }
 {
     let givens = bundle.config.params.as_slice();
     let statements = bundle.instruction.operation.statements.as_slice();

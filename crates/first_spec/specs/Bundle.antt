@@ -28,7 +28,8 @@ use Rattle.entry_tree.specs.declared.ConfigKind.TheVariants as kind
 use Rattle.entry_tree.specs.declared.Given.{Given}
 use Rattle.entry_tree.specs.declared.ConfigEntry.{ConfigEntry}
 use Rattle.first_spec.specs.declared.bundle.FirstBundle.{FirstBundle}
-use Rattle.idl_tree.specs.Print.{body_lines, text_of_lines}
+use Rattle.udb_base.specs.Lines.{text_of_lines}
+use Rattle.idl_tree.specs.Print.{body_lines}
 use Rattle.first_spec.specs.Alphabets.{is_parameter_name, is_instruction_name, is_config_name, is_text, is_match}
 
 -- `=== <kind> <name> <lines>`, then the lines
@@ -189,6 +190,6 @@ pub record IsFirst (x : FirstBundle) : Type 0 where
   pub config : IsConfig x.params x.config
 
 -- the bytes are the bundle's text
-pub record Spells (bytes : List ℕ) (x : FirstBundle) : Type 0 where
+pub record SpellsFirst (bytes : List ℕ) (x : FirstBundle) : Type 0 where
   pub first : IsFirst x
   pub text : bytes ≡ text_of_lines (bundle_lines x)

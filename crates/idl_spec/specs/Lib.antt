@@ -3,7 +3,8 @@ pub mod Values
 pub mod Mean
 pub mod MeanLaws
 pub mod Formulas
-pub mod Places
+pub mod Effects
+pub mod TestPlaces
 pub mod Words
 pub mod WordLaws
-pub mod PlaceLaws
+pub mod TestPlaceLaws

@@ -13,7 +13,7 @@ use Rattle.idl_tree.specs.declared.statements.Stmt.TheVariants as s
 use Rattle.idl_tree.specs.WidthLaws.{fold-Width-Number}
 use Rattle.idl_tree.specs.ExprLaws.{fold-Expr-Number, fold-Expr-Sized, fold-Expr-Flag, fold-Expr-Word, fold-Expr-Unary, fold-Expr-Binary, fold-Expr-Register}
 use Rattle.idl_tree.specs.StmtLaws.{fold-Stmt-Assign, fold-Stmt-Block, fold-Stmt-If}
-use Rattle.idl_spec.specs.Places.{flat}
+use Rattle.idl_spec.specs.Effects.{flat}
 use Rattle.idl_spec.specs.Words.{Word, width_words, width_step, expr_words, expr_step, target_words, other_words, stmt_words, stmt_step}
 
 pub words-width-Number : (n : ℕ) → width_words (w.Number n) ≡ []

@@ -13,7 +13,7 @@ use Rattle.idl_tree.specs.declared.statements.Target.TheVariants as t
 use Rattle.idl_tree.specs.declared.statements.Stmt.{Stmt}
 use Rattle.idl_tree.specs.declared.statements.Stmt.TheOpen.{Stmt-F}
 use Rattle.idl_tree.specs.declared.statements.Stmt.TheFolds.{fold-Stmt}
-use Rattle.idl_spec.specs.Places.{flat}
+use Rattle.idl_spec.specs.Effects.{flat}
 
 abbrev pub Word : Type 0
 Word = List ℕ

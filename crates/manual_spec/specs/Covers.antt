@@ -23,7 +23,7 @@ use Rattle.manual_spec.specs.declared.manuals.Shown.{Shown}
 use Rattle.manual_spec.specs.declared.manuals.Shown.TheVariants as s
 use Rattle.manual_spec.specs.declared.manuals.Part.{Part}
 use Rattle.manual_spec.specs.declared.manuals.Manual.{Manual}
-use Rattle.manual_spec.specs.Completions.{version_text, value_text}
+use Rattle.udb_spec.specs.ProofText.{version_text, value_text}
 use Rattle.manual_spec.specs.Entries.{Entries, space_of, HasExtension, HasParam, HasInstruction, fits_base}
 use Rattle.manual_spec.specs.Text.{lines_of, codes_rv32, codes_rv64, codes_all}
 
@@ -98,6 +98,7 @@ pub record IsInstructionPart (space : Space) (part : Partial) (x : InstructionEn
   pub variables : List (List ℕ)
   pub variable_rows : Shows (Completes space part) (λ full e. HasRow space x e.base full) (λ e row. row ≡ variable_row e) x.operation.variables variables
   pub body : Body
+  pub statements_alone : body.variables ≡ []
   pub table : shown.shown ≡ s.Instruction matches variables body
 
 -- the parts of each kind, in the order of kinds

@@ -12,6 +12,7 @@ use Rattle.udb_spec.specs.Conditions.{holds, present_among}
 use Rattle.udb_spec.specs.Spaces.{mxlen}
 use Rattle.idl_tree.specs.declared.programs.Base.{Base}
 use Rattle.idl_tree.specs.declared.programs.Base.TheVariants as b
+use Rattle.idl_tree.specs.declared.programs.Function.{Function}
 use Rattle.entry_tree.specs.declared.ExtensionEntry.{ExtensionEntry}
 use Rattle.entry_tree.specs.declared.ParamEntry.{ParamEntry}
 use Rattle.entry_tree.specs.declared.Encoding.{Encoding}
@@ -32,6 +33,10 @@ param_space x = record { name = x.name; domain = x.domain; defined = x.defined; 
 -- the space of the entries
 abbrev pub space_of : Entries → Space
 space_of entries = record { extensions = map ext_space entries.extensions; params = map param_space entries.params }
+
+-- the functions of the database: none until entries of functions are read
+abbrev pub functions_of : Entries → List Function
+functions_of entries = []
 
 -- an extension is present where the full configuration has a version of it
 abbrev pub HasExtension : Space → Full → ExtensionEntry → Type 0

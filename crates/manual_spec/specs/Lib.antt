@@ -1,4 +1,3 @@
-pub mod Completions
 pub mod Entries
 pub mod Text
 pub mod Covers

@@ -1,7 +1,7 @@
 //! Manuals.
 
-use idl_tree::{Body, FieldKind, Functions, Lines, ResetValue};
-use udb_base::{Full, Many, Name};
+use idl_tree::{Body, FieldKind, Functions, ResetValue};
+use udb_base::{Full, Lines, Many, Name};
 
 /// The lines of an entry's long name, description and assembly; only instructions have assembly.
 #[derive(Drop)]

@@ -5,7 +5,7 @@ use Rattle.std.specs.Prelude.{Option}
 use Rattle.udb_base.specs.declared.conditions.Value.{Value}
 use Rattle.udb_base.specs.declared.spaces.ExtSpace.{ExtSpace}
 use Rattle.udb_base.specs.declared.spaces.ParamSpace.{ParamSpace}
-use Rattle.manual_spec.specs.Completions.{choice_lines, value_lines}
+use Rattle.udb_spec.specs.ProofText.{choice_lines, value_lines}
 
 pub choices_done : (at : ℕ) (exts : List ExtSpace) (choices : List (Option Version)) → min (length exts) (length choices) ≤ at → choice_lines (drop at exts) (drop at choices) ≡ []
 choices_done zero [] choices h = refl

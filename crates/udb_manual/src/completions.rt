@@ -1,11 +1,13 @@
 //! The lines of a full configuration.
 
-ghost use Rattle.std.specs.Prelude.{◌≡◌, ◌++◌, ◌∷◌, [], IfOk, OnOk};
-ghost use Rattle.manual_spec.specs.Completions.{version_text, choice_text, value_text, choice_lines, value_lines, full_lines};
+ghost use Rattle.std.specs.Prelude.{◌≡◌, ◌++◌, ◌∷◌, ◌<◌, [], IfOk, OnOk, encode_utf8};
+ghost use Rattle.std.specs.List.{flat_map};
+ghost use Rattle.udb_spec.specs.ProofText.{plain_or_hex, hex_digit, json_byte, json_text, version_text, choice_text, value_text, choice_lines, value_lines, full_lines};
 
-use idl_tree::Lines;
 use std::alloc::Global;
-use udb_base::{Chars, ExtSpace, Full, Many, Name, NoMemory, ParamSpace, Space, Value, Version};
+use udb_base::{
+    Chars, ExtSpace, Full, Lines, Many, Name, NoMemory, ParamSpace, Space, Value, Version,
+};
 
 fn text_of_version(alloc: Global, version: Version) -> Result<Chars, NoMemory>
     ensures { IfOk result (λ text. text ≡ version_text version) }
@@ -27,16 +29,74 @@ fn text_of_choice(alloc: Global, choice: Option<Version>) -> Result<Chars, NoMem
     }
 }
 
-fn quoted(alloc: Global, word: &str) -> Result<Chars, NoMemory>
-    ensures { IfOk result (λ text. text ≡ 34 ∷ word.now ++ 34 ∷ []) }
+fn hex_digit(digit: u8) -> char
+    requires { digit < 16 }
+    ensures sign { result ≡ hex_digit digit }
+    ensures small { result < 128 }
+{
+    if digit < 10 {
+        (b'0' + digit) as char
+    } else {
+        (b'W' + digit) as char
+    }
+}
+
+// The code of a control character.
+fn push_code(text: &mut Chars, byte: u8) -> Result<(), NoMemory>
+    requires { byte < 32 }
+    ensures { OnOk result (text.new ≡ text.old ++ plain_or_hex byte) }
+{
+    text.push_str("\\u00")?;
+    text.push(hex_digit(byte / 16))?;
+    text.push(hex_digit(byte % 16))
+}
+
+// A control character as a JSON text writes it.
+fn push_control(text: &mut Chars, byte: u8) -> Result<(), NoMemory>
+    requires { byte < 32 }
+    ensures { OnOk result (text.new ≡ text.old ++ json_byte byte) }
+{
+    match byte {
+        8 => text.push_str("\\b"),
+        9 => text.push_str("\\t"),
+        10 => text.push_str("\\n"),
+        12 => text.push_str("\\f"),
+        13 => text.push_str("\\r"),
+        _ => push_code(text, byte),
+    }
+}
+
+// A character as a JSON text writes it.
+#[tactic(auto, using(crate::proofs::JsonLemmas::control_letter, crate::proofs::JsonLemmas::other_letter))]
+fn push_json_letter(text: &mut Chars, letter: char) -> Result<(), NoMemory>
+    ensures { OnOk result (text.new ≡ text.old ++ flat_map json_byte (encode_utf8 letter)) }
+{
+    if letter == '"' {
+        return text.push_str("\\\"");
+    }
+    if letter == '\\' {
+        return text.push_str("\\\\");
+    }
+    if letter < ' ' {
+        return push_control(text, letter as u8);
+    }
+    text.push(letter)
+}
+
+// A word as a JSON text.
+fn json_text(alloc: Global, word: &str) -> Result<Chars, NoMemory>
+    ensures { IfOk result (λ text. text ≡ json_text word.now) }
 {
     let mut text = Chars::of(alloc, "\"")?;
-    text.push_str(word)?;
+    for letter in word.chars() {
+        push_json_letter(&mut text, letter)?;
+    }
     text.push_str("\"")?;
     Ok(text)
 }
 
-/// A value as completions and tables write it.
+/// A value as completions and tables write it: a truth value, a decimal number, or a JSON text with
+/// the escapes of RFC 8259, section 7. The one refusal is want of memory.
 pub fn text_of_value(alloc: Global, value: &Value) -> Result<Chars, NoMemory>
     ensures { IfOk result (λ text. text ≡ value_text value.now) }
 {
@@ -49,12 +109,12 @@ pub fn text_of_value(alloc: Global, value: &Value) -> Result<Chars, NoMemory>
             }
         }
         Value::Number(number) => Ok(Chars::from_string(format!(in alloc; "{number}")?)),
-        Value::Word(word) => quoted(alloc, word.as_str()),
+        Value::Word(word) => json_text(alloc, word.as_str()),
     }
 }
 
 // A name, a space and a text.
-fn named_line(alloc: Global, name: &Name, text: &Chars) -> Result<Chars, NoMemory>
+fn line_with_name(alloc: Global, name: &Name, text: &Chars) -> Result<Chars, NoMemory>
     ensures { IfOk result (λ line. line ≡ name.now ++ (32 ∷ text.now)) }
 {
     let mut line = Chars::of(alloc, name.as_str())?;
@@ -63,28 +123,18 @@ fn named_line(alloc: Global, name: &Name, text: &Chars) -> Result<Chars, NoMemor
     Ok(line)
 }
 
-fn push_choice(
-    alloc: Global,
-    out: &mut Lines,
-    ext: &ExtSpace,
-    choice: Option<Version>,
-) -> Result<(), NoMemory>
-    ensures { OnOk result (out.new ≡ out.old ++ (ext.now.name ++ (32 ∷ choice_text choice)) ∷ []) }
+fn line_of_choice(alloc: Global, ext: &ExtSpace, choice: Option<Version>) -> Result<Chars, NoMemory>
+    ensures { IfOk result (λ line. line ≡ ext.now.name ++ (32 ∷ choice_text choice)) }
 {
     let text = text_of_choice(alloc, choice)?;
-    out.push(named_line(alloc, &ext.name, &text)?)
+    line_with_name(alloc, &ext.name, &text)
 }
 
-fn push_value(
-    alloc: Global,
-    out: &mut Lines,
-    param: &ParamSpace,
-    value: &Value,
-) -> Result<(), NoMemory>
-    ensures { OnOk result (out.new ≡ out.old ++ (param.now.name ++ (32 ∷ value_text value.now)) ∷ []) }
+fn line_of_value(alloc: Global, param: &ParamSpace, value: &Value) -> Result<Chars, NoMemory>
+    ensures { IfOk result (λ line. line ≡ param.now.name ++ (32 ∷ value_text value.now)) }
 {
     let text = text_of_value(alloc, value)?;
-    out.push(named_line(alloc, &param.name, &text)?)
+    line_with_name(alloc, &param.name, &text)
 }
 
 fn push_choices(
@@ -96,7 +146,7 @@ fn push_choices(
     ensures { OnOk result (out.new ≡ out.old ++ choice_lines exts.now choices.now) }
 {
     for at in 0..exts.len().min(choices.len()) {
-        push_choice(alloc, out, &exts[at], choices[at])?;
+        out.push(line_of_choice(alloc, &exts[at], choices[at])?)?;
     }
     Ok(())
 }
@@ -110,13 +160,13 @@ fn push_values(
     ensures { OnOk result (out.new ≡ out.old ++ value_lines params.now values.now) }
 {
     for at in 0..params.len().min(values.len()) {
-        push_value(alloc, out, &params[at], &values[at])?;
+        out.push(line_of_value(alloc, &params[at], &values[at])?)?;
     }
     Ok(())
 }
 
 /// The lines of a full configuration: a line for each extension of the space, then for each
-/// parameter.
+/// parameter, in the order of the space. The one refusal is want of memory.
 pub fn lines_of_full(alloc: Global, space: &Space, full: &Full) -> Result<Lines, NoMemory>
     ensures { IfOk result (λ lines. lines ≡ full_lines space.now full.now) }
 {

@@ -2,18 +2,18 @@
 
 ghost use Rattle.std.specs.Prelude.{◌≡◌, ◌++◌, ◌∷◌, [], IfOk, OnOk, map, length, codes};
 ghost use Rattle.std.specs.Fmt.{decimal};
-ghost use Rattle.idl_tree.specs.Print.{text_of_lines};
-ghost use Rattle.manual_spec.specs.Completions.{full_lines};
-ghost use Rattle.manual_spec.specs.Text.{completion_lines, text_lines, table_lines, source_lines, shown_lines, shown_kind, part_lines, parts_lines, manual_lines, manual_text};
+ghost use Rattle.udb_spec.specs.ProofText.{full_lines};
+ghost use Rattle.manual_spec.specs.Text.{completion_lines, text_counts, text_lines, table_lines, source_lines, encoding_lines, shown_lines, shown_kind, part_heading, part_lines, parts_lines, manual_lines, manual_text};
 
 use crate::completions::lines_of_full;
-use idl_tree::{Body, Lines, body_lines};
+use idl_print::body_lines;
+use idl_tree::Body;
 use manual_spec::{Manual, Part, PartText, Shown};
 use std::alloc::Global;
-use udb_base::{Chars, Full, Many, NoMemory, Space};
+use udb_base::{Chars, Full, Lines, Many, NoMemory, Space, text_of_lines};
 
 // A label and a text.
-fn labelled(alloc: Global, label: &str, text: &str) -> Result<Chars, NoMemory>
+fn line_with_text(alloc: Global, label: &str, text: &str) -> Result<Chars, NoMemory>
     ensures { IfOk result (λ line. line ≡ label.now ++ text.now) }
 {
     let mut line = Chars::of(alloc, label)?;
@@ -22,7 +22,7 @@ fn labelled(alloc: Global, label: &str, text: &str) -> Result<Chars, NoMemory>
 }
 
 // A label and a number.
-fn counted(alloc: Global, label: &str, count: usize) -> Result<Chars, NoMemory>
+fn line_with_count(alloc: Global, label: &str, count: usize) -> Result<Chars, NoMemory>
     ensures { IfOk result (λ line. line ≡ label.now ++ decimal count) }
 {
     Ok(Chars::from_string(format!(in alloc; "{label}{count}")?))
@@ -33,7 +33,7 @@ fn push_all(alloc: Global, out: &mut Lines, label: &str, lines: &[Chars]) -> Res
     ensures { OnOk result (out.new ≡ out.old ++ map (λ l. label.now ++ l) lines.now) }
 {
     for line in lines {
-        out.push(labelled(alloc, label, line.as_str())?)?;
+        out.push(line_with_text(alloc, label, line.as_str())?)?;
     }
     Ok(())
 }
@@ -58,13 +58,13 @@ fn push_completion(
     ensures { OnOk result (out.new ≡ out.old ++ completion_lines space.now full.now) }
 {
     let lines = lines_of_full(alloc, space, full)?;
-    out.push(counted(alloc, "// completion ", lines.len())?)?;
+    out.push(line_with_count(alloc, "// completion ", lines.len())?)?;
     push_all(alloc, out, "// ", lines.as_slice())?;
     Ok(())
 }
 
-fn count_of_texts(alloc: Global, text: &PartText) -> Result<Chars, NoMemory>
-    ensures { IfOk result (λ line. line ≡ codes "// text " ++ (decimal (length text.now.long_name) ++ (32 ∷ decimal (length text.now.description) ++ (32 ∷ decimal (length text.now.assembly))))) }
+fn text_counts(alloc: Global, text: &PartText) -> Result<Chars, NoMemory>
+    ensures { IfOk result (λ line. line ≡ text_counts text.now) }
 {
     let long_name = text.long_name.len();
     let description = text.description.len();
@@ -75,7 +75,7 @@ fn count_of_texts(alloc: Global, text: &PartText) -> Result<Chars, NoMemory>
 fn push_text(alloc: Global, out: &mut Lines, text: &PartText) -> Result<(), NoMemory>
     ensures { OnOk result (out.new ≡ out.old ++ text_lines text.now) }
 {
-    out.push(count_of_texts(alloc, text)?)?;
+    out.push(text_counts(alloc, text)?)?;
     push_lines(alloc, out, text.long_name.as_slice())?;
     push_lines(alloc, out, text.description.as_slice())?;
     push_lines(alloc, out, text.assembly.as_slice())
@@ -93,7 +93,7 @@ fn push_table(alloc: Global, out: &mut Lines, rows: &[Chars]) -> Result<(), NoMe
 fn push_source(alloc: Global, out: &mut Lines, lines: &[Chars]) -> Result<(), NoMemory>
     ensures { OnOk result (out.new ≡ out.old ++ source_lines lines.now) }
 {
-    out.push(counted(alloc, "// body ", lines.len())?)?;
+    out.push(line_with_count(alloc, "// body ", lines.len())?)?;
     out.push(Chars::of(alloc, "[source,idl]")?)?;
     out.push(Chars::of(alloc, "----")?)?;
     push_lines(alloc, out, lines)?;
@@ -102,14 +102,14 @@ fn push_source(alloc: Global, out: &mut Lines, lines: &[Chars]) -> Result<(), No
 }
 
 #[tactic(auto, using(std::proofs::Common::append_assoc))]
-fn push_instruction(
+fn push_encoding(
     alloc: Global,
     out: &mut Lines,
     matches: &[Chars],
     variables: &[Chars],
     body: &Body,
 ) -> Result<(), NoMemory>
-    ensures { OnOk result (out.new ≡ out.old ++ shown_lines (Shown.Instruction matches.now variables.now body.now)) }
+    ensures { OnOk result (out.new ≡ out.old ++ encoding_lines matches.now variables.now body.now) }
 {
     let lines = body_lines(alloc, body)?;
     push_table(alloc, out, matches)?;
@@ -128,7 +128,7 @@ fn push_shown(alloc: Global, out: &mut Lines, shown: &Shown) -> Result<(), NoMem
             matches,
             variables,
             body,
-        } => push_instruction(alloc, out, matches.as_slice(), variables.as_slice(), body),
+        } => push_encoding(alloc, out, matches.as_slice(), variables.as_slice(), body),
         Shown::Csr {
             register: _register,
             fields: _fields,
@@ -163,9 +163,9 @@ fn kind_of(shown: &Shown) -> &'static str
 }
 
 fn heading(alloc: Global, part: &Part) -> Result<Chars, NoMemory>
-    ensures { IfOk result (λ line. line ≡ codes "== " ++ (shown_kind part.now.shown ++ (32 ∷ part.now.name))) }
+    ensures { IfOk result (λ line. line ≡ part_heading part.now) }
 {
-    let mut line = labelled(alloc, "== ", kind_of(&part.shown))?;
+    let mut line = line_with_text(alloc, "== ", kind_of(&part.shown))?;
     line.push_str(" ")?;
     line.push_str(part.name.as_str())?;
     Ok(line)
@@ -196,30 +196,19 @@ fn lines_of_manual(alloc: Global, space: &Space, manual: &Manual) -> Result<Line
     ensures { IfOk result (λ lines. lines ≡ manual_lines space.now manual.now) }
 {
     let mut lines = Many::new(alloc);
-    lines.push(labelled(alloc, "= Manual of ", manual.config.as_str())?)?;
+    lines.push(line_with_text(alloc, "= Manual of ", manual.config.as_str())?)?;
     push_completion(alloc, &mut lines, space, &manual.completion)?;
-    lines.push(counted(alloc, "// shown ", manual.parts.len())?)?;
+    lines.push(line_with_count(alloc, "// shown ", manual.parts.len())?)?;
     push_parts(alloc, &mut lines, space, manual.parts.as_slice())?;
     Ok(lines)
 }
 
-// Lines, each ended by a line feed.
-fn joined(alloc: Global, lines: &[Chars]) -> Result<Chars, NoMemory>
-    ensures { IfOk result (λ text. text ≡ text_of_lines lines.now) }
-{
-    let mut text = Chars::new(alloc);
-    for line in lines {
-        text.push_str(line.as_str())?;
-        text.push_str("\n")?;
-    }
-    Ok(text)
-}
-
-/// The text of a manual over a space, whose names stand in its completions. CSRs and functions
-/// have a heading and texts alone until their entries are read.
+/// The text of a manual over a space, whose names stand in its completions. Of CSRs and functions
+/// it has the heading, the completion and the texts alone, until their entries are read. The one
+/// refusal is want of memory.
 pub fn print_manual(alloc: Global, space: &Space, manual: &Manual) -> Result<Chars, NoMemory>
     ensures { IfOk result (λ text. text ≡ manual_text space.now manual.now) }
 {
     let lines = lines_of_manual(alloc, space, manual)?;
-    joined(alloc, lines.as_slice())
+    text_of_lines(alloc, lines.as_slice())
 }

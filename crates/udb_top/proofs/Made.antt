@@ -9,20 +9,21 @@ use Rattle.idl_tree.specs.declared.statements.Stmt.{Stmt}
 use Rattle.entry_tree.specs.declared.ParamEntry.{ParamEntry}
 use Rattle.entry_tree.specs.declared.InstructionEntry.{InstructionEntry}
 use Rattle.first_spec.specs.declared.bundle.FirstBundle.{FirstBundle}
-use Rattle.first_spec.specs.Bundle.{IsFirst, Spells}
+use Rattle.first_spec.specs.Bundle.{IsFirst, SpellsFirst}
 use Rattle.first_prune.specs.Known.{entries_of, partial_of}
+use Rattle.first_prune.specs.Bundles.{CompletesFirst, KeepsFirst, SettlesFirst}
 use Rattle.manual_spec.specs.declared.manuals.Part.{Part}
 use Rattle.manual_spec.specs.declared.manuals.Manual.{Manual}
 use Rattle.manual_spec.specs.Entries.{space_of}
 use Rattle.manual_spec.specs.Faithful.{KeepsMean, FaithfulShown, Faithful}
-use Rattle.manual_spec.specs.Settled.{SettledBody, SettledShown, Settled}
+use Rattle.manual_spec.specs.Settled.{SettlesEntry, SettledShown, Settled}
 use Rattle.manual_spec.specs.Text.{manual_text}
 use Rattle.udb_top.specs.Making.{param_part, instruction_part, manual_with, IsManual, IsManualText}
 use Rattle.udb_top.specs.Run.{ShowsManual}
 use Rattle.udb_top.proofs.Shown.{made_covers}
 
 module _ (x : FirstBundle) (full : Full) (shown : List Stmt) where
-  made_faithful : KeepsMean (space_of (entries_of x)) (partial_of x.config) x.instruction shown → Faithful (entries_of x) (partial_of x.config) (manual_with x full shown)
+  made_faithful : KeepsFirst x shown → Faithful (entries_of x) (partial_of x.config) (manual_with x full shown)
   made_faithful keeps =
       let P : Part → Type 0 = λ p. FaithfulShown (entries_of x) (partial_of x.config) p.name p.shown in
       let Q : InstructionEntry → Type 0 = λ i. i.name ≡ x.instruction.name → KeepsMean (space_of (entries_of x)) (partial_of x.config) i shown in
@@ -30,19 +31,20 @@ module _ (x : FirstBundle) (full : Full) (shown : List Stmt) where
       (All-map P (param_part full) x.params (λ k d l. tt))
       (All-cons P (instruction_part full x.instruction shown) [] (All-cons Q x.instruction [] (λ _. keeps) (All-nil Q)) (All-nil P))
 
-  made_settled : SettledBody (space_of (entries_of x)) (partial_of x.config) shown → Settled (space_of (entries_of x)) (partial_of x.config) (manual_with x full shown)
+  made_settled : SettlesFirst x shown → Settled (entries_of x) (partial_of x.config) (manual_with x full shown)
   made_settled settled =
-      let P : Part → Type 0 = λ p. SettledShown (space_of (entries_of x)) (partial_of x.config) p.shown in
+      let P : Part → Type 0 = λ p. SettledShown (entries_of x) (partial_of x.config) p.name p.shown in
+      let Q : InstructionEntry → Type 0 = λ i. i.name ≡ x.instruction.name → SettlesEntry (entries_of x) (partial_of x.config) i shown in
       All-append P (map (param_part full) x.params) (instruction_part full x.instruction shown ∷ [])
       (All-map P (param_part full) x.params (λ k d l. tt))
-      (All-cons P (instruction_part full x.instruction shown) [] settled (All-nil P))
+      (All-cons P (instruction_part full x.instruction shown) [] (All-cons Q x.instruction [] (λ _. settled) (All-nil Q)) (All-nil P))
 
-  pub made : IsFirst x → Completes (space_of (entries_of x)) (partial_of x.config) full → KeepsMean (space_of (entries_of x)) (partial_of x.config) x.instruction shown → SettledBody (space_of (entries_of x)) (partial_of x.config) shown → IsManual x (manual_with x full shown)
+  pub made : IsFirst x → CompletesFirst x full → KeepsFirst x shown → SettlesFirst x shown → IsManual x (manual_with x full shown)
   made first complete keeps settled = record { covers = made_covers x full shown first complete; faithful = made_faithful keeps; settled = made_settled settled }
 
 -- ---- results
 
-pub result_made : {E : Type 0} (x : FirstBundle) (full : Full) (shown : List Stmt) → (IsFirst x → Completes (space_of (entries_of x)) (partial_of x.config) full) → (IsFirst x → KeepsMean (space_of (entries_of x)) (partial_of x.config) x.instruction shown) → (IsFirst x → SettledBody (space_of (entries_of x)) (partial_of x.config) shown) → (r : Result Manual E) → IfOk r (λ manual. manual ≡ manual_with x full shown) → IfOk r (λ manual. IsFirst x → IsManual x manual)
+pub result_made : {E : Type 0} (x : FirstBundle) (full : Full) (shown : List Stmt) → (IsFirst x → CompletesFirst x full) → (IsFirst x → KeepsFirst x shown) → (IsFirst x → SettlesFirst x shown) → (r : Result Manual E) → IfOk r (λ manual. manual ≡ manual_with x full shown) → IfOk r (λ manual. IsFirst x → IsManual x manual)
 result_made x full shown complete keeps settled (Ok manual) e = λ h. subst (IsManual x) (sym e) (made x full shown h (complete h) (keeps h) (settled h))
 result_made x full shown complete keeps settled (Err f) e = tt
 
@@ -50,6 +52,6 @@ pub result_text : {E : Type 0} (x : FirstBundle) (space : Space) (manual : Manua
 result_text x space manual s is (Ok text) e = λ h. record { manual = manual; is = is h; printed = e ∙ ap (λ (y : Space). manual_text y manual) s }
 result_text x space manual s is (Err f) e = tt
 
-pub result_shows : {E : Type 0} (input config : List ℕ) (x : FirstBundle) → Spells input x → (r : Result (List ℕ) E) → IfOk r (λ text. (x.config.name ≡ config) × (IsFirst x → IsManualText x text)) → IfOk r (ShowsManual input config)
+pub result_shows : {E : Type 0} (input config : List ℕ) (x : FirstBundle) → SpellsFirst input x → (r : Result (List ℕ) E) → IfOk r (λ text. (x.config.name ≡ config) × (IsFirst x → IsManualText x text)) → IfOk r (ShowsManual input config)
 result_shows input config x s (Ok text) h = record { bundle = x; spelled = s; named = h.0; shows = h.1 s.first }
 result_shows input config x s (Err f) h = tt

@@ -28,16 +28,13 @@ use Rattle.manual_spec.specs.declared.manuals.PartText.{PartText}
 use Rattle.manual_spec.specs.declared.manuals.Part.{Part}
 use Rattle.manual_spec.specs.declared.manuals.Manual.{Manual}
 use Rattle.manual_spec.specs.Text.{lines_of, onto_first}
-use Rattle.manual_spec.specs.Entries.{Entries, space_of, HasExtension, HasParam, HasInstruction, fits_base, base_or_any}
+use Rattle.manual_spec.specs.Entries.{Entries, space_of, HasExtension, HasParam, HasInstruction}
 use Rattle.manual_spec.specs.Covers.{Shows, none, shown, IsText, HasCompletion, IsParamPart, IsInstructionPart, ShowsEntries, Covers, HasRow, match_row, variable_row, domain_lines}
 use Rattle.first_bundle.proofs.Clean.{is_clean, clean, left_so, right_so}
 use Rattle.first_bundle.proofs.Names.{clean_text}
 use Rattle.first_prune.specs.Known.{entries_of, partial_of}
-use Rattle.udb_top.specs.Making.{one_line_each, value_rows, param_part, instruction_part, manual_with}
-
--- what is Always holds
-always_holds : (space : Space) (full : Full) (c : Cond) → c ≡ Always → holds space full c ≡ true
-always_holds space full c e = ap (holds space full) e ∙ holds-Always space full
+use Rattle.first_prune.proofs.Shown.{always_holds, has_instruction}
+use Rattle.udb_top.specs.Making.{one_line_each, value_rows, encoding_rows, param_part, instruction_part, manual_with}
 
 no_feed : (b : ℕ) (t : Bool) → (b == 10) ≡ t → (nat_lt b 128 && not (b == 10)) ≡ true → (b == 10) ≡ false
 no_feed b true e h = absurd (at_feed (nat_lt b 128) (b == 10) e h)
@@ -91,16 +88,9 @@ module _ (space : Space) (part : Partial) (full : Full) (complete : Completes sp
       shown full complete (always_holds space full p.defined (All-head IsParam p ps h).defined)
       (param_shown p (All-head IsParam p ps h)) (params_shown ps (All-tail IsParam p ps h))
 
-  pub has_instruction : (ps : List ParamEntry) (x : InstructionEntry) → IsInstruction ps x → HasInstruction space full x
-  has_instruction ps x h = record {
-    defined = always_holds space full x.defined h.defined;
-    base = ap (λ o. base_or_any o (mxlen space full)) h.base;
-    encoding = ap (λ es. list_any (λ e. fits_base e.base (mxlen space full)) es) h.encodings;
-  }
-
-  row_shown : (x : InstructionEntry) → HasInstruction space full x → (es : List Encoding) (digits : List ℕ) → es ≡ record { base = EachBase; digits = digits } ∷ [] → Shows (Completes space part) (λ full e. HasRow space x e.base full) (λ e row. row ≡ match_row e) es ((codes "all | " ++ digits_among es) ∷ [])
+  row_shown : (x : InstructionEntry) → HasInstruction space full x → (es : List Encoding) (digits : List ℕ) → es ≡ record { base = EachBase; digits = digits } ∷ [] → Shows (Completes space part) (λ full e. HasRow space x e.base full) (λ e row. row ≡ match_row e) es (encoding_rows es)
   row_shown x has es digits e =
-      subst (λ (es : List Encoding). Shows (Completes space part) (λ full e. HasRow space x e.base full) (λ e row. row ≡ match_row e) es ((codes "all | " ++ digits_among es) ∷ [])) (sym e)
+      subst (λ (es : List Encoding). Shows (Completes space part) (λ full e. HasRow space x e.base full) (λ e row. row ≡ match_row e) es (encoding_rows es)) (sym e)
       (shown full complete (has, refl) refl none)
 
   no_variables : (x : InstructionEntry) (vs : List Variable) → vs ≡ [] → Shows (Completes space part) (λ full e. HasRow space x e.base full) (λ e row. row ≡ variable_row e) vs []
@@ -110,12 +100,13 @@ module _ (space : Space) (part : Partial) (full : Full) (complete : Completes sp
   instruction_shown ps x statements h = record {
     name = refl;
     text = subst (λ (a : List ℕ). IsText x.long_name x.description a (one_line_each x.long_name x.description)) (sym h.assembly) (is_one_text x.long_name x.description h.long_name h.description);
-    completion = record { completes = complete; has = has_instruction ps x h };
-    matches = (codes "all | " ++ digits_among x.encodings) ∷ [];
-    match_rows = row_shown x (has_instruction ps x h) x.encodings h.digits h.encodings;
+    completion = record { completes = complete; has = has_instruction space full ps x h };
+    matches = encoding_rows x.encodings;
+    match_rows = row_shown x (has_instruction space full ps x h) x.encodings h.digits h.encodings;
     variables = [];
     variable_rows = no_variables x x.operation.variables h.variables;
     body = record { variables = []; statements = statements };
+    statements_alone = refl;
     table = refl;
   }
 
@@ -132,7 +123,7 @@ made_covers x full statements h complete =
         params = map (param_part full) x.params;
         shows_params = params_shown space (partial_of x.config) full complete x.params h.params;
         instructions = instruction_part full x.instruction statements ∷ [];
-        shows_instructions = shown full complete (has_instruction space (partial_of x.config) full complete x.params x.instruction h.instruction) (instruction_shown space (partial_of x.config) full complete x.params x.instruction statements h.instruction) none;
+        shows_instructions = shown full complete (has_instruction space full x.params x.instruction h.instruction) (instruction_shown space (partial_of x.config) full complete x.params x.instruction statements h.instruction) none;
         in_order = refl;
       };
     }

@@ -1,7 +1,8 @@
 -- The statuses of the command `manual`, and which causes they rule out.
 use Rattle.std.proofs.Common.{◌≡◌, ◌≢◌, ◌≤◌, ◌<◌, ◌+◌, ◌⊎◌, ℕ, List, length, refl, inl, inr, subst, sym, ap, arith, ◌∙◌, Option, Some, ⊎_elim}
 use Rattle.first_spec.specs.declared.bundle.FirstBundle.{FirstBundle}
-use Rattle.first_spec.specs.Bundle.{Spells}
+use Rattle.first_spec.specs.Bundle.{SpellsFirst}
+use Rattle.first_bundle.specs.Laws.{OneBundle}
 use Rattle.udb_top.specs.declared.running.Refusal.{Refusal}
 use Rattle.udb_top.specs.declared.running.Refusal.TheVariants as refusal
 use Rattle.udb_top.specs.Run.{IsShowStatus, done, read_failed, write_failed, memory, too_long, no_config, not_built, refusal_status, ShowsManual, NotBuilt, NoSuchConfig, TookTooMany, IsComplete, IsStatus, input_limit}
@@ -107,11 +108,8 @@ pub record Causes (r : ℕ) (input config : List ℕ) : Type 0 where
   pub when_unnamed : r ≡ 9 → (length input ≤ input_limit) × NoSuchConfig input config
   pub when_unbuilt : r ≡ 12 → (length input ≤ input_limit) × NotBuilt input
 
-abbrev OneBundle : Type 0
-OneBundle = (bytes : List ℕ) (x y : FirstBundle) → Spells bytes x → Spells bytes y → x ≡ y
-
 module _ (one : OneBundle) (input config : List ℕ) where
-  named_not_other : (x : FirstBundle) → Spells input x → x.config.name ≡ config → NoSuchConfig input config → ⊥
+  named_not_other : (x : FirstBundle) → SpellsFirst input x → x.config.name ≡ config → NoSuchConfig input config → ⊥
   named_not_other x s n o = o.other (ap (λ (b : FirstBundle). b.config.name) (one input o.bundle x o.spelled s) ∙ n)
 
   complete_done : (length input ≤ input_limit) × ((text : List ℕ) × ShowsManual input config text) → IsComplete input config 0

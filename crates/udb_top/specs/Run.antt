@@ -4,7 +4,7 @@ use Rattle.std.specs.declared.string.String.{String}
 use Rattle.udb_base.specs.Names.{IsName}
 use Rattle.udb_base.specs.Faults.{Rose}
 use Rattle.first_spec.specs.declared.bundle.FirstBundle.{FirstBundle}
-use Rattle.first_spec.specs.Bundle.{Spells}
+use Rattle.first_spec.specs.Bundle.{IsFirst, SpellsFirst}
 use Rattle.udb_top.specs.declared.running.Refusal.{Refusal}
 use Rattle.udb_top.specs.declared.running.Refusal.TheVariants as refusal
 use Rattle.udb_top.specs.Making.{IsManualText}
@@ -12,6 +12,14 @@ use Rattle.udb_top.specs.Making.{IsManualText}
 -- the most bytes of input
 abbrev pub input_limit : ℕ
 input_limit = 16777216
+
+-- of what an object holds or has left, where it tells it
+abbrev pub IfTold : Option (List ℕ) → (List ℕ → Type 0) → Type 0
+IfTold told P = (xs : List ℕ) → told ≡ Some xs → P xs
+
+-- of what two objects hold or have left, where both tell it
+abbrev pub IfBothTold : Option (List ℕ) → Option (List ℕ) → (List ℕ → List ℕ → Type 0) → Type 0
+IfBothTold left written P = (xs os : List ℕ) → left ≡ Some xs → written ≡ Some os → P xs os
 
 -- the words as bytes
 abbrev pub words_of : {Z : Type 0} → List (String Z) → List (List ℕ)
@@ -35,32 +43,57 @@ IsOtherCommand words = (word : List ℕ) → words ≢ codes "manual" ∷ word �
 abbrev pub IsNoCommand : List (List ℕ) → Type 0
 IsNoCommand words = (config : List ℕ) → IsManualCommand words config → ⊥
 
+abbrev pub HasManualCommand : List (List ℕ) → Type 0
+HasManualCommand words = (config : List ℕ) × IsManualCommand words config
+
+-- of the input and the configuration that the words name, where they are the command and it tells it
+abbrev pub IfCommandOn : List (List ℕ) → Option (List ℕ) → (List ℕ → List ℕ → Type 0) → Type 0
+IfCommandOn words left P = (xs config : List ℕ) → left ≡ Some xs → IsManualCommand words config → P xs config
+
 -- the input is a bundle of the first path, and the text is that of a manual of its configuration
 -- which has the asked name
 pub record ShowsManual (input config text : List ℕ) : Type 0 where
   pub bundle : FirstBundle
-  pub spelled : Spells input bundle
+  pub spelled : SpellsFirst input bundle
   pub named : bundle.config.name ≡ config
   pub shows : IsManualText bundle text
 
+-- the bundle has the asked configuration, and the text is that of a manual of it
+abbrev pub ShowsBundle : FirstBundle → List ℕ → List ℕ → Type 0
+ShowsBundle bundle config text = (bundle.config.name ≡ config) × (IsFirst bundle → IsManualText bundle text)
+
 -- the input is no bundle of the first path
 abbrev pub NotBuilt : List ℕ → Type 0
-NotBuilt input = (bundle : FirstBundle) → Spells input bundle → ⊥
+NotBuilt input = (bundle : FirstBundle) → SpellsFirst input bundle → ⊥
 
 -- the input is a bundle of the first path whose configuration has another name
 pub record NoSuchConfig (input config : List ℕ) : Type 0 where
   pub bundle : FirstBundle
-  pub spelled : Spells input bundle
+  pub spelled : SpellsFirst input bundle
   pub other : bundle.config.name ≢ config
 
 -- more bytes than the limit were taken of the input
 abbrev pub TookTooMany : List ℕ → Option (List ℕ) → Type 0
 TookTooMany input left = (rest : List ℕ) × ((left ≡ Some rest) × (input_limit + length rest < length input))
 
+abbrev pub TookFew : List ℕ → Option (List ℕ) → Type 0
+TookFew input left = TookTooMany input left → ⊥
+
+-- the input was read to its end, is within the limit, and has this text
+abbrev pub ShowsWhole : List ℕ → List ℕ → Option (List ℕ) → List ℕ → Type 0
+ShowsWhole input config left text = (left ≡ Some []) × (length input ≤ input_limit) × ShowsManual input config text
+
+-- the input is within the limit and has some text
+abbrev pub HasManual : List ℕ → List ℕ → Type 0
+HasManual input config = (length input ≤ input_limit) × ((text : List ℕ) × ShowsManual input config text)
+
 -- the name of the configuration among the words
 abbrev pub asked_config : List (List ℕ) → List ℕ
 asked_config (command ∷ config ∷ []) = config
 asked_config _ = []
+
+abbrev pub no_config_text : List ℕ → List ℕ
+no_config_text config = codes "no such config " ++ (config ++ codes "\n")
 
 -- the text of a status on the output for errors
 abbrev pub status_text : List ℕ → ℕ → List ℕ
@@ -69,7 +102,7 @@ status_text config n =
     else (if n == 3 then codes "read failed\n"
     else (if n == 7 then codes "out of memory\n"
     else (if n == 8 then codes "input too long\n"
-    else (if n == 9 then codes "no such config " ++ (config ++ codes "\n")
+    else (if n == 9 then no_config_text config
     else (if n == 12 then codes "not built\n" else [])))))
 
 -- the status of a refusal
@@ -114,7 +147,7 @@ pub record IsComplete (input config : List ℕ) (status : ℕ) : Type 0 where
   pub long : input_limit < length input → (status ≡ 8) ⊎ (status ≡ 7)
   pub unbuilt : length input ≤ input_limit → NotBuilt input → (status ≡ 12) ⊎ (status ≡ 7)
   pub unnamed : length input ≤ input_limit → NoSuchConfig input config → (status ≡ 9) ⊎ (status ≡ 7)
-  pub shown : length input ≤ input_limit → (bundle : FirstBundle) → Spells input bundle → bundle.config.name ≡ config → (status ≡ 0) ⊎ (status ≡ 7)
+  pub shown : length input ≤ input_limit → (bundle : FirstBundle) → SpellsFirst input bundle → bundle.config.name ≡ config → (status ≡ 0) ⊎ (status ≡ 7)
 
 -- the words are the command, and its success stands
 pub record ShowsAll (words : List (List ℕ)) (input : List ℕ) (left : Option (List ℕ)) (before : List ℕ) (written : Option (List ℕ)) : Type 0 where

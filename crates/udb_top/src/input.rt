@@ -2,7 +2,7 @@
 
 ghost use Rattle.std.specs.Prelude.{◌≡◌, ◌≢◌, ◌≤◌, ◌<◌, [], List, ℕ, Some, IfOk, OnErr, OnOk, length};
 ghost use Rattle.udb_base.specs.Faults.{Rose};
-ghost use Rattle.udb_top.specs.Run.{input_limit, TookTooMany};
+ghost use Rattle.udb_top.specs.Run.{input_limit, IfTold, TookTooMany, TookFew};
 
 use std::alloc::Global;
 use udb_base::Source;
@@ -22,10 +22,13 @@ pub enum InputFault {
 pub fn read_input<S: Source>(alloc: Global, input: &mut S) -> Result<Vec<u8>, InputFault>
     ensures later { S.faults input.old ≤ S.faults input.new }
     ensures failed { result ≡ Err InputFault.Read → Rose (S.faults input.old) (S.faults input.new) }
-    ensures whole { (xs : List ℕ) → S.left input.old ≡ Some xs → IfOk result (λ bytes. (bytes.items ≡ xs) × (S.left input.new ≡ Some [])) }
+    ensures whole { IfTold (S.left input.old) (λ xs.
+        IfOk result (λ bytes. (bytes.items ≡ xs) × (S.left input.new ≡ Some []))) }
     ensures within { IfOk result (λ bytes. length bytes.items ≤ input_limit) }
-    ensures too_long { (xs : List ℕ) → S.left input.old ≡ Some xs → result ≡ Err InputFault.TooLong → TookTooMany xs (S.left input.new) }
-    ensures few { (xs : List ℕ) → S.left input.old ≡ Some xs → result ≢ Err InputFault.TooLong → result ≢ Err InputFault.Memory → TookTooMany xs (S.left input.new) → ⊥ }
+    ensures too_long { IfTold (S.left input.old) (λ xs.
+        result ≡ Err InputFault.TooLong → TookTooMany xs (S.left input.new)) }
+    ensures few { IfTold (S.left input.old) (λ xs. result ≢ Err InputFault.TooLong →
+        result ≢ Err InputFault.Memory → TookFew xs (S.left input.new)) }
 {
     let mut bytes = Vec::new(alloc);
     let mut buffer = [0; 4096];

@@ -5,7 +5,5 @@ mod input;
 mod making;
 mod running;
 mod spaces;
-#[cfg(test)]
-mod tests;
 
 pub use running::run;

@@ -2,15 +2,15 @@
 
 ghost use Rattle.std.specs.Prelude.{◌≡◌, ◌++◌, ◌∷◌, [], IfOk, OnOk, map, codes};
 ghost use Rattle.first_spec.specs.Bundle.{IsFirst, digits_among};
-ghost use Rattle.udb_top.specs.Making.{one_line_each, value_rows, param_part, instruction_part, manual_with, IsManual};
+ghost use Rattle.udb_top.specs.Making.{one_line_each, value_rows, encoding_rows, shown_instruction, param_part, instruction_part, manual_with, IsManual};
 
 use entry_tree::{Encoding, InstructionEntry, ParamEntry};
 use first_bundle::{FirstBundle, match_digits};
 use first_prune::{complete_bundle, prune_bundle};
-use idl_tree::{Body, Lines, Stmts};
+use idl_tree::{Body, Stmts};
 use manual_spec::{Manual, Part, PartText, Parts, Shown};
 use std::alloc::Global;
-use udb_base::{Chars, Copied, Domain, Full, Many, NoMemory};
+use udb_base::{Chars, Copied, Domain, Full, Lines, Many, NoMemory};
 
 fn one_line(alloc: Global, text: &str) -> Result<Lines, NoMemory>
     ensures { IfOk result (λ lines. lines ≡ text.now ∷ []) }
@@ -66,8 +66,8 @@ fn part_of_param(alloc: Global, full: &Full, param: &ParamEntry) -> Result<Part,
     })
 }
 
-fn match_rows(alloc: Global, encodings: &[Encoding]) -> Result<Lines, NoMemory>
-    ensures { IfOk result (λ lines. lines ≡ (codes "all | " ++ digits_among encodings.now) ∷ []) }
+fn encoding_rows(alloc: Global, encodings: &[Encoding]) -> Result<Lines, NoMemory>
+    ensures { IfOk result (λ lines. lines ≡ encoding_rows encodings.now) }
 {
     let mut row = Chars::of(alloc, "all | ")?;
     row.push_str(match_digits(encodings))?;
@@ -81,9 +81,9 @@ fn shown_instruction(
     instruction: &InstructionEntry,
     statements: Stmts,
 ) -> Result<Shown, NoMemory>
-    ensures { IfOk result (λ shown. shown ≡ Shown.Instruction ((codes "all | " ++ digits_among instruction.now.encodings) ∷ []) [] (record { variables = []; statements = statements })) }
+    ensures { IfOk result (λ shown. shown ≡ shown_instruction instruction.now statements) }
 {
-    let matches = match_rows(alloc, instruction.encodings.as_slice())?;
+    let matches = encoding_rows(alloc, instruction.encodings.as_slice())?;
     Ok(Shown::Instruction {
         matches,
         variables: Many::new(alloc),
@@ -151,7 +151,7 @@ fn manual_with(
     })
 }
 
-/// The manual of the bundle's configuration.
+/// The manual of the bundle's configuration. The one refusal is want of memory.
 pub fn make_manual(alloc: Global, bundle: &FirstBundle) -> Result<Manual, NoMemory>
     ensures { IfOk result (λ manual. IsFirst bundle.now → IsManual bundle.now manual) }
 {

@@ -4,7 +4,7 @@ ghost use Rattle.std.specs.Prelude.{◌≡◌, ◌≢◌, ◌≤◌, ◌⊎◌, 
 ghost use Rattle.udb_base.specs.Faults.{Rose};
 ghost use Rattle.first_spec.specs.Bundle.{IsFirst};
 ghost use Rattle.udb_top.specs.Making.{IsManualText};
-ghost use Rattle.udb_top.specs.Run.{input_limit, words_of, IsOtherCommand, IsNameWord, IsManualCommand, IsNoCommand, ShowsManual, NotBuilt, NoSuchConfig, TookTooMany, IsDone, IsFront, IsShowStatus, IsStatus, ShowsAll, ShowsFront, IsCommandOn, NoRise, IsComplete, asked_config, status_text, refusal_status};
+ghost use Rattle.udb_top.specs.Run.{input_limit, words_of, IfTold, IfBothTold, IfCommandOn, IsOtherCommand, IsNameWord, IsManualCommand, HasManualCommand, IsNoCommand, ShowsManual, ShowsBundle, ShowsWhole, HasManual, NotBuilt, NoSuchConfig, TookTooMany, TookFew, IsDone, IsFront, IsShowStatus, IsStatus, ShowsAll, ShowsFront, IsCommandOn, NoRise, IsComplete, asked_config, no_config_text, status_text, refusal_status};
 
 use crate::input::{InputFault, read_input};
 use crate::making::make_manual;
@@ -57,7 +57,8 @@ fn names_config(alloc: Global, word: &str) -> Result<bool, NoMemory>
 
 // The argument of the word `manual`.
 fn argument(words: &[String]) -> Option<&str>
-    ensures { MatchOption result (IsOtherCommand (words_of words.now)) (λ word. words_of words.now ≡ codes "manual" ∷ word.now ∷ []) }
+    ensures { MatchOption result (IsOtherCommand (words_of words.now))
+        (λ word. words_of words.now ≡ codes "manual" ∷ word.now ∷ []) }
 {
     match words {
         [command, argument] => {
@@ -73,8 +74,9 @@ fn argument(words: &[String]) -> Option<&str>
 
 // The configuration that the words name, where they are the command `manual <config>`.
 fn manual_config(alloc: Global, words: &[String]) -> Result<Option<&str>, NoMemory>
-    ensures answer { IfOk result (λ config. MatchOption config (IsNoCommand (words_of words.now)) (λ c. IsManualCommand (words_of words.now) c.now)) }
-    ensures memory { OnErr result ((config : List ℕ) × IsManualCommand (words_of words.now) config) }
+    ensures answer { IfOk result (λ config. MatchOption config (IsNoCommand (words_of words.now))
+        (λ c. IsManualCommand (words_of words.now) c.now)) }
+    ensures memory { OnErr result (HasManualCommand (words_of words.now)) }
 {
     match argument(words) {
         None => Ok(None),
@@ -99,9 +101,10 @@ fn printed_manual(alloc: Global, bundle: &FirstBundle) -> Result<Chars, NoMemory
 
 // The text of the manual of a bundle whose configuration has the asked name.
 fn manual_of_bundle(alloc: Global, config: &str, bundle: &FirstBundle) -> Result<Chars, Refusal>
-    ensures text { IfOk result (λ text. (bundle.now.config.name ≡ config.now) × (IsFirst bundle.now → IsManualText bundle.now text)) }
+    ensures text { IfOk result (ShowsBundle bundle.now config.now) }
     ensures other { result ≡ Err Refusal.NoSuchConfig → bundle.now.config.name ≢ config.now }
-    ensures refusals { OnErr result ((result ≡ Err Refusal.NoSuchConfig) ⊎ (result ≡ Err Refusal.Memory)) }
+    ensures refusals { OnErr result
+        ((result ≡ Err Refusal.NoSuchConfig) ⊎ (result ≡ Err Refusal.Memory)) }
 {
     if bundle.config.name.as_str() != config {
         return Err(Refusal::NoSuchConfig);
@@ -131,11 +134,16 @@ fn manual_of_bytes(alloc: Global, config: &str, bytes: &[u8]) -> Result<Chars, R
 fn manual_of_input<S: Source>(alloc: Global, config: &str, input: &mut S) -> Result<Chars, Refusal>
     ensures later { S.faults input.old ≤ S.faults input.new }
     ensures read { result ≡ Err Refusal.Read → Rose (S.faults input.old) (S.faults input.new) }
-    ensures text { (xs : List ℕ) → S.left input.old ≡ Some xs → IfOk result (λ text. (S.left input.new ≡ Some []) × (length xs ≤ input_limit) × ShowsManual xs config.now text) }
-    ensures too_long { (xs : List ℕ) → S.left input.old ≡ Some xs → result ≡ Err Refusal.TooLong → TookTooMany xs (S.left input.new) }
-    ensures few { (xs : List ℕ) → S.left input.old ≡ Some xs → result ≢ Err Refusal.TooLong → result ≢ Err Refusal.Memory → TookTooMany xs (S.left input.new) → ⊥ }
-    ensures no_config { (xs : List ℕ) → S.left input.old ≡ Some xs → result ≡ Err Refusal.NoSuchConfig → (length xs ≤ input_limit) × NoSuchConfig xs config.now }
-    ensures not_built { (xs : List ℕ) → S.left input.old ≡ Some xs → result ≡ Err Refusal.NotBuilt → (length xs ≤ input_limit) × NotBuilt xs }
+    ensures text { IfTold (S.left input.old) (λ xs.
+        IfOk result (ShowsWhole xs config.now (S.left input.new))) }
+    ensures too_long { IfTold (S.left input.old) (λ xs.
+        result ≡ Err Refusal.TooLong → TookTooMany xs (S.left input.new)) }
+    ensures few { IfTold (S.left input.old) (λ xs.
+        result ≢ Err Refusal.TooLong → result ≢ Err Refusal.Memory → TookFew xs (S.left input.new)) }
+    ensures no_config { IfTold (S.left input.old) (λ xs.
+        result ≡ Err Refusal.NoSuchConfig → (length xs ≤ input_limit) × NoSuchConfig xs config.now) }
+    ensures not_built { IfTold (S.left input.old) (λ xs.
+        result ≡ Err Refusal.NotBuilt → (length xs ≤ input_limit) × NotBuilt xs) }
 {
     match read_input(alloc, input) {
         Ok(bytes) => manual_of_bytes(alloc, config, bytes.as_slice()),
@@ -150,7 +158,8 @@ fn refuse<T: Sink>(err: &mut T, status: u8, text: &str) -> u8
     ensures status { (result ≡ status) ⊎ (result ≡ 4) }
     ensures failed { result ≢ status → Rose (T.faults err.old) (T.faults err.new) }
     ensures later { T.faults err.old ≤ T.faults err.new }
-    ensures told { (es : List ℕ) → T.written err.old ≡ Some es → result ≡ status → status ≢ 4 → T.written err.new ≡ Some (es ++ text.now) }
+    ensures told { IfTold (T.written err.old) (λ es.
+        result ≡ status → status ≢ 4 → T.written err.new ≡ Some (es ++ text.now)) }
 {
     match err.write(text.as_bytes()) {
         Ok(()) => status,
@@ -163,8 +172,10 @@ fn deliver<T: Sink>(out: &mut T, text: &[u8]) -> u8
     ensures status { (result ≡ 0) ⊎ (result ≡ 4) }
     ensures failed { result ≢ 0 → Rose (T.faults out.old) (T.faults out.new) }
     ensures later { T.faults out.old ≤ T.faults out.new }
-    ensures told { (os : List ℕ) → T.written out.old ≡ Some os → result ≡ 0 → T.written out.new ≡ Some (os ++ text.now) }
-    ensures front { (os : List ℕ) → T.written out.old ≡ Some os → (n : ℕ) × (T.written out.new ≡ Some (os ++ take n text.now)) }
+    ensures told { IfTold (T.written out.old) (λ os.
+        result ≡ 0 → T.written out.new ≡ Some (os ++ text.now)) }
+    ensures front { IfTold (T.written out.old) (λ os.
+        (n : ℕ) × (T.written out.new ≡ Some (os ++ take n text.now))) }
 {
     match out.write(text) {
         Ok(()) => DONE,
@@ -176,7 +187,8 @@ fn deliver<T: Sink>(out: &mut T, text: &[u8]) -> u8
 fn put<T: Sink>(err: &mut T, piece: &[u8]) -> bool
     ensures failed { result ≡ false → Rose (T.faults err.old) (T.faults err.new) }
     ensures later { T.faults err.old ≤ T.faults err.new }
-    ensures told { (es : List ℕ) → T.written err.old ≡ Some es → result ≡ true → T.written err.new ≡ Some (es ++ piece.now) }
+    ensures told { IfTold (T.written err.old) (λ es.
+        result ≡ true → T.written err.new ≡ Some (es ++ piece.now)) }
 {
     match err.write(piece) {
         Ok(()) => true,
@@ -189,7 +201,8 @@ fn refuse_config<T: Sink>(err: &mut T, config: &str) -> u8
     ensures status { (result ≡ 9) ⊎ (result ≡ 4) }
     ensures failed { result ≢ 9 → Rose (T.faults err.old) (T.faults err.new) }
     ensures later { T.faults err.old ≤ T.faults err.new }
-    ensures told { (es : List ℕ) → T.written err.old ≡ Some es → result ≡ 9 → T.written err.new ≡ Some (es ++ (codes "no such config " ++ (config.now ++ codes "\n"))) }
+    ensures told { IfTold (T.written err.old) (λ es.
+        result ≡ 9 → T.written err.new ≡ Some (es ++ no_config_text config.now)) }
 {
     if !put(err, b"no such config ") {
         return WRITE_FAILED;
@@ -205,7 +218,8 @@ fn answer<T: Sink>(err: &mut T, config: &str, refusal: Refusal) -> u8
     ensures status { (result ≡ refusal_status refusal) ⊎ (result ≡ 4) }
     ensures failed { result ≢ refusal_status refusal → Rose (T.faults err.old) (T.faults err.new) }
     ensures later { T.faults err.old ≤ T.faults err.new }
-    ensures told { (es : List ℕ) → T.written err.old ≡ Some es → result ≡ refusal_status refusal → T.written err.new ≡ Some (es ++ status_text config.now (refusal_status refusal)) }
+    ensures told { IfTold (T.written err.old) (λ es. result ≡ refusal_status refusal →
+        T.written err.new ≡ Some (es ++ status_text config.now (refusal_status refusal))) }
 {
     match refusal {
         Refusal::Read => refuse(err, READ_FAILED, "read failed\n"),
@@ -229,16 +243,25 @@ fn show<S: Source, T: Sink>(
     ensures out_later { T.faults out.old ≤ T.faults out.new }
     ensures err_later { T.faults err.old ≤ T.faults err.new }
     ensures read { result ≡ 3 → Rose (S.faults input.old) (S.faults input.new) }
-    ensures write { result ≡ 4 → Rose (T.faults out.old) (T.faults out.new) ⊎ Rose (T.faults err.old) (T.faults err.new) }
-    ensures done { (xs os : List ℕ) → S.left input.old ≡ Some xs → T.written out.old ≡ Some os → result ≡ 0 → IsDone config.now xs (S.left input.new) os (T.written out.new) }
-    ensures shown { (xs : List ℕ) → S.left input.old ≡ Some xs → result ≡ 0 → (length xs ≤ input_limit) × ((text : List ℕ) × ShowsManual xs config.now text) }
-    ensures too_long { (xs : List ℕ) → S.left input.old ≡ Some xs → result ≡ 8 → TookTooMany xs (S.left input.new) }
-    ensures too_many { (xs : List ℕ) → S.left input.old ≡ Some xs → TookTooMany xs (S.left input.new) → (result ≡ 8) ⊎ ((result ≡ 7) ⊎ (result ≡ 4)) }
-    ensures no_config { (xs : List ℕ) → S.left input.old ≡ Some xs → result ≡ 9 → (length xs ≤ input_limit) × NoSuchConfig xs config.now }
-    ensures not_built { (xs : List ℕ) → S.left input.old ≡ Some xs → result ≡ 12 → (length xs ≤ input_limit) × NotBuilt xs }
-    ensures errors { (es : List ℕ) → T.written err.old ≡ Some es → result ≢ 4 → T.written err.new ≡ Some (es ++ status_text config.now result) }
-    ensures silent { (os : List ℕ) → T.written out.old ≡ Some os → result ≢ 0 → result ≢ 4 → T.written out.new ≡ Some os }
-    ensures front { (xs os : List ℕ) → S.left input.old ≡ Some xs → T.written out.old ≡ Some os → result ≡ 4 → IsFront config.now xs os (T.written out.new) }
+    ensures write { result ≡ 4 →
+        Rose (T.faults out.old) (T.faults out.new) ⊎ Rose (T.faults err.old) (T.faults err.new) }
+    ensures done { IfBothTold (S.left input.old) (T.written out.old) (λ xs os.
+        result ≡ 0 → IsDone config.now xs (S.left input.new) os (T.written out.new)) }
+    ensures shown { IfTold (S.left input.old) (λ xs. result ≡ 0 → HasManual xs config.now) }
+    ensures too_long { IfTold (S.left input.old) (λ xs.
+        result ≡ 8 → TookTooMany xs (S.left input.new)) }
+    ensures too_many { IfTold (S.left input.old) (λ xs.
+        TookTooMany xs (S.left input.new) → (result ≡ 8) ⊎ ((result ≡ 7) ⊎ (result ≡ 4))) }
+    ensures no_config { IfTold (S.left input.old) (λ xs.
+        result ≡ 9 → (length xs ≤ input_limit) × NoSuchConfig xs config.now) }
+    ensures not_built { IfTold (S.left input.old) (λ xs.
+        result ≡ 12 → (length xs ≤ input_limit) × NotBuilt xs) }
+    ensures errors { IfTold (T.written err.old) (λ es.
+        result ≢ 4 → T.written err.new ≡ Some (es ++ status_text config.now result)) }
+    ensures silent { IfTold (T.written out.old) (λ os.
+        result ≢ 0 → result ≢ 4 → T.written out.new ≡ Some os) }
+    ensures front { IfBothTold (S.left input.old) (T.written out.old) (λ xs os.
+        result ≡ 4 → IsFront config.now xs os (T.written out.new)) }
 {
     match manual_of_input(alloc, config, input) {
         Ok(text) => deliver(out, text.as_bytes()),
@@ -249,8 +272,9 @@ fn show<S: Source, T: Sink>(
 /// Runs the command that the words are: `manual <config>` reads a bundle from `input`, prints the
 /// manual of its configuration on `out`, and otherwise the text of a status on `err`. The words are
 /// those after the program's name. The answer is the status: 0 done, 2 no command, 3 a failed read,
-/// 4 a failed write, 7 want of memory, 8 an input past its limit, 9 no such configuration, 12 not
-/// built.
+/// 4 a failed write, 7 want of memory, 8 an input of more than 16,777,216 bytes, 9 a bundle of
+/// another configuration, 12 an input that is no bundle. Causes are met in this order: 2; 3 or 8,
+/// whichever reading meets first; 12; 9; 4. Memory may want at any of them.
 pub fn run<S: Source, T: Sink>(
     alloc: Global,
     words: &[String],
@@ -266,20 +290,32 @@ pub fn run<S: Source, T: Sink>(
     ensures no_command { result ≡ 2 → IsNoCommand (words_of words.now) }
     ensures command { IsNoCommand (words_of words.now) → (result ≡ 2) ⊎ (result ≡ 4) }
     ensures read { result ≡ 3 → Rose (S.faults input.old) (S.faults input.new) }
-    ensures write { result ≡ 4 → Rose (T.faults out.old) (T.faults out.new) ⊎ Rose (T.faults err.old) (T.faults err.new) }
+    ensures write { result ≡ 4 →
+        Rose (T.faults out.old) (T.faults out.new) ⊎ Rose (T.faults err.old) (T.faults err.new) }
 
     // What content tells: the manual that was shown, and the input that was refused.
-    ensures done { (xs os : List ℕ) → S.left input.old ≡ Some xs → T.written out.old ≡ Some os → result ≡ 0 → ShowsAll (words_of words.now) xs (S.left input.new) os (T.written out.new) }
-    ensures too_long { (xs : List ℕ) → S.left input.old ≡ Some xs → result ≡ 8 → TookTooMany xs (S.left input.new) }
-    ensures too_many { (xs : List ℕ) → S.left input.old ≡ Some xs → TookTooMany xs (S.left input.new) → (result ≡ 8) ⊎ ((result ≡ 7) ⊎ (result ≡ 4)) }
-    ensures no_config { (xs : List ℕ) → S.left input.old ≡ Some xs → result ≡ 9 → IsCommandOn NoSuchConfig (words_of words.now) xs }
-    ensures not_built { (xs : List ℕ) → S.left input.old ≡ Some xs → result ≡ 12 → IsCommandOn (λ input config. NotBuilt input) (words_of words.now) xs }
-    ensures complete { (xs config : List ℕ) → S.left input.old ≡ Some xs → IsManualCommand (words_of words.now) config → NoRise (S.faults input.old) (S.faults input.new) → NoRise (T.faults out.old) (T.faults out.new) → NoRise (T.faults err.old) (T.faults err.new) → IsComplete xs config result }
+    ensures done { IfBothTold (S.left input.old) (T.written out.old) (λ xs os.
+        result ≡ 0 → ShowsAll (words_of words.now) xs (S.left input.new) os (T.written out.new)) }
+    ensures too_long { IfTold (S.left input.old) (λ xs.
+        result ≡ 8 → TookTooMany xs (S.left input.new)) }
+    ensures too_many { IfTold (S.left input.old) (λ xs.
+        TookTooMany xs (S.left input.new) → (result ≡ 8) ⊎ ((result ≡ 7) ⊎ (result ≡ 4))) }
+    ensures no_config { IfTold (S.left input.old) (λ xs.
+        result ≡ 9 → IsCommandOn NoSuchConfig (words_of words.now) xs) }
+    ensures not_built { IfTold (S.left input.old) (λ xs.
+        result ≡ 12 → IsCommandOn (λ input config. NotBuilt input) (words_of words.now) xs) }
+    ensures complete { IfCommandOn (words_of words.now) (S.left input.old) (λ xs config.
+        NoRise (S.faults input.old) (S.faults input.new) →
+        NoRise (T.faults out.old) (T.faults out.new) →
+        NoRise (T.faults err.old) (T.faults err.new) → IsComplete xs config result) }
 
     // What both outputs received.
-    ensures errors { (es : List ℕ) → T.written err.old ≡ Some es → result ≢ 4 → T.written err.new ≡ Some (es ++ status_text (asked_config (words_of words.now)) result) }
-    ensures silent { (os : List ℕ) → T.written out.old ≡ Some os → result ≢ 0 → result ≢ 4 → T.written out.new ≡ Some os }
-    ensures front { (xs os : List ℕ) → S.left input.old ≡ Some xs → T.written out.old ≡ Some os → result ≡ 4 → ShowsFront (words_of words.now) xs os (T.written out.new) }
+    ensures errors { IfTold (T.written err.old) (λ es. result ≢ 4 →
+        T.written err.new ≡ Some (es ++ status_text (asked_config (words_of words.now)) result)) }
+    ensures silent { IfTold (T.written out.old) (λ os.
+        result ≢ 0 → result ≢ 4 → T.written out.new ≡ Some os) }
+    ensures front { IfBothTold (S.left input.old) (T.written out.old) (λ xs os.
+        result ≡ 4 → ShowsFront (words_of words.now) xs os (T.written out.new)) }
 {
     match manual_config(alloc, words) {
         Ok(Some(config)) => show(alloc, config, input, out, err),

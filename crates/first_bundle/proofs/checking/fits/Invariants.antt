@@ -1,5 +1,5 @@
 use Rattle.std.proofs.Common.{◌≡◌, ◌+◌, ◌≤◌, length, drop}
-use Rattle.idl_tree.specs.Print.{text_of_lines}
+use Rattle.udb_base.specs.Lines.{text_of_lines}
 use Rattle.first_bundle.proofs.checking.fits.Given as goal
 
 abbrev pub invariant-loop-line : goal.invariant-loop-line

@@ -1,4 +1,4 @@
-use Rattle.std.proofs.Common.{◌≡◌, ◌++◌, [], drop, ap, sym, ◌∙◌, append-nil, arith}
+use Rattle.std.proofs.Common.{◌++◌, ap, sym, ◌∙◌, append-nil, arith}
 use Rattle.udb_manual.proofs.DoneLines.{choices_done}
 use Rattle.udb_manual.proofs.completions.push_choices.Goals as goal
 

@@ -1,5 +1,5 @@
 use Rattle.std.proofs.Common.{◌≡◌, ◌++◌, drop}
-use Rattle.manual_spec.specs.Completions.{choice_lines}
+use Rattle.udb_spec.specs.ProofText.{choice_lines}
 use Rattle.udb_manual.proofs.completions.push_choices.Given as goal
 
 abbrev pub invariant-loop-at : goal.invariant-loop-at

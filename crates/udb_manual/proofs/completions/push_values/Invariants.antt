@@ -1,5 +1,5 @@
 use Rattle.std.proofs.Common.{◌≡◌, ◌++◌, drop}
-use Rattle.manual_spec.specs.Completions.{value_lines}
+use Rattle.udb_spec.specs.ProofText.{value_lines}
 use Rattle.udb_manual.proofs.completions.push_values.Given as goal
 
 abbrev pub invariant-loop-at : goal.invariant-loop-at

@@ -1,4 +1,4 @@
-use Rattle.std.proofs.Common.{◌≡◌, ◌<◌, ◌++◌, ◌∷◌, [], ◌+◌, take, length, sym, ◌∙◌, ap, arith}
+use Rattle.std.proofs.Common.{◌≡◌, ◌++◌, ◌∷◌, [], ◌+◌, take, sym, ◌∙◌, ap}
 use Rattle.std.proofs.lemmas.List.{flat_map_more, take_more}
 use Rattle.manual_spec.specs.Text.{part_lines, parts_lines}
 use Rattle.udb_manual.proofs.printing.push_parts.Goals as goal
