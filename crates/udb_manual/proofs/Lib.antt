@@ -1,2 +1,0 @@
-pub mod DoneLines
-pub mod JsonLemmas

@@ -5,12 +5,12 @@ ghost use Rattle.std.specs.Fmt.{decimal};
 ghost use Rattle.udb_spec.specs.ProofText.{full_lines};
 ghost use Rattle.manual_spec.specs.Text.{completion_lines, text_counts, text_lines, table_lines, source_lines, encoding_lines, shown_lines, shown_kind, part_heading, part_lines, parts_lines, manual_lines, manual_text};
 
-use crate::completions::lines_of_full;
 use idl_print::body_lines;
 use idl_tree::Body;
 use manual_spec::{Manual, Part, PartText, Shown};
 use std::alloc::Global;
 use udb_base::{Chars, Full, Lines, Many, NoMemory, Space, text_of_lines};
+use udb_full::print_full;
 
 // A label and a text.
 fn line_with_text(alloc: Global, label: &str, text: &str) -> Result<Chars, NoMemory>
@@ -57,7 +57,7 @@ fn push_completion(
 ) -> Result<(), NoMemory>
     ensures { OnOk result (out.new ≡ out.old ++ completion_lines space.now full.now) }
 {
-    let lines = lines_of_full(alloc, space, full)?;
+    let lines = print_full(alloc, space, full)?;
     out.push(line_with_count(alloc, "// completion ", lines.len())?)?;
     push_all(alloc, out, "// ", lines.as_slice())?;
     Ok(())

@@ -1,8 +1,0 @@
-use Rattle.std.proofs.Common.{◌++◌, ap, sym, ◌∙◌, append-nil, arith}
-use Rattle.udb_manual.proofs.DoneLines.{choices_done}
-use Rattle.udb_manual.proofs.completions.push_choices.Goals as goal
-
-pub returns : goal.returns
-returns c =
-    sym (ap (λ lines. c.loop-at.out ++ lines) (choices_done c.loop-at.at _ _ (omega arith)) ∙ append-nil c.loop-at.out)
-    ∙ c.loop-at.invariant
