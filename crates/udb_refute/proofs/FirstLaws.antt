@@ -50,11 +50,11 @@ child-low : (b : Bool) (low k : ℕ) (o : Option (ℕ × ℕ)) (q : Bool) (place
 child-low b low k None q place p e f h = tt
 child-low b low k (Some ends) q place p e f h = rw (e ∙ f) h
 
-not-or-left : (a b : Bool) → not (a || b) ≡ true → a ≡ false
+pub not-or-left : (a b : Bool) → not (a || b) ≡ true → a ≡ false
 not-or-left true b e = sym e
 not-or-left false b e = refl
 
-not-or-right : (a b : Bool) → not (a || b) ≡ true → not b ≡ true
+pub not-or-right : (a b : Bool) → not (a || b) ≡ true → not b ≡ true
 not-or-right true b e = absurd (false≢true e)
 not-or-right false b e = e
 

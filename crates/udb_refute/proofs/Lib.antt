@@ -1,5 +1,8 @@
 pub mod PathLaws
 pub mod FirstLaws
+pub mod BoardLaws
+pub mod AtomLaws
+pub mod VariableLaws
 pub mod ChoiceLaws
 pub mod StepLaws
 pub mod SearchLaws

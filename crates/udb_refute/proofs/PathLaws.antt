@@ -126,7 +126,7 @@ kept-own path param place n k (x ∷ xs) e le lt =
       apart : (n k : ℕ) → n ≤ k → (n ≡ k → ⊥) → n + 1 ≤ k
       apart n k le ne = omega arith
 
-own-on : (path : List Step) (param : Bool) (place k : ℕ) → choice_on (Child param place k ∷ path) param place ≡ Some k
+pub own-on : (path : List Step) (param : Bool) (place k : ℕ) → choice_on (Child param place k ∷ path) param place ≡ Some k
 own-on path true place k = rw (eq-eqb place place refl) refl
 own-on path false place k = rw (eq-eqb place place refl) refl
 

@@ -1,3 +1,5 @@
 pub mod Paths
 pub mod Search
 pub mod Answers
+pub mod Boards
+pub mod Variables

@@ -9,12 +9,17 @@ ghost use Rattle.udb_spec.specs.Known.{known, known_over, ext_known, param_known
 ghost use Rattle.udb_cond.specs.Steps.{steps_of};
 ghost use Rattle.udb_cond.specs.Tally.{is_unknown};
 ghost use Rattle.udb_spec.specs.ProofText.{HasShortPlaces};
+ghost use Rattle.udb_refute.specs.Boards.{IsBoard};
 ghost use Rattle.udb_refute.specs.Search.{IsChosen, IsDivided, IsOpen, IsShortDomain, HasShortLists, is_range, cut_number};
+ghost use Rattle.udb_refute.specs.Variables.{HasVariables};
 ghost use Rattle.udb_spec.specs.Refutes.{is_unsplit};
 
+use crate::boards::Board;
 use crate::cells::low_end;
+use crate::truth::truth;
+use crate::variables::Variables;
 use udb_base::Name;
-use udb_cond::{Cells, Cond, Domain, Known, Space, Test, Value, holds3};
+use udb_cond::{Cells, Cond, Domain, Known, Space, Test, Value};
 
 /// How the cells of a variable are divided: an extension or a listed parameter into each of its
 /// choices, a range into the numbers below `at` and those from `at`.
@@ -132,10 +137,19 @@ fn param_choice(
     None
 }
 
-fn is_unknown(space: &Space, cond: &Cond, cells: &Cells) -> bool
+fn is_unknown(
+    space: &Space,
+    cells: &Cells,
+    variables: &Variables,
+    board: &Board,
+    cond: &Cond,
+) -> bool
+    requires variables { HasVariables space.now variables.now }
+    requires board { IsBoard space.now (steps_of cells.now) board.now }
+    requires open { IsOpen space.now (steps_of cells.now) }
     ensures { result ≡ is_unknown (known space.now (steps_of cells.now) cond.now) }
 {
-    match holds3(space, cond, cells) {
+    match truth(space, cells, variables, board, cond) {
         Known::Unknown => true,
         Known::Yes => false,
         Known::No => false,
@@ -143,16 +157,24 @@ fn is_unknown(space: &Space, cond: &Cond, cells: &Cells) -> bool
 }
 
 #[cycle(choosing)]
-fn choice_among(conds: &[Cond], space: &Space, cells: &Cells) -> Option<Choice>
+fn choice_among(
+    space: &Space,
+    cells: &Cells,
+    variables: &Variables,
+    board: &Board,
+    conds: &[Cond],
+) -> Option<Choice>
     requires lists { HasShortLists space.now }
     requires places { HasShortPlaces space.now }
+    requires variables { HasVariables space.now variables.now }
+    requires board { IsBoard space.now (steps_of cells.now) board.now }
     requires open { IsOpen space.now (steps_of cells.now) }
     ensures { list_any is_unknown (map (known space.now (steps_of cells.now)) conds.now) ≡ true
         → IsChosen space.now (steps_of cells.now) result }
 {
     for cond in conds {
-        if is_unknown(space, cond, cells) {
-            return choose(cond, space, cells);
+        if is_unknown(space, cells, variables, board, cond) {
+            return choose(space, cells, variables, board, cond);
         }
     }
     None
@@ -161,9 +183,17 @@ fn choice_among(conds: &[Cond], space: &Space, cells: &Cells) -> Option<Choice>
 /// How to divide the variable of the first unknown atom of a condition that is unknown.
 #[cycle(choosing)]
 #[tactic(auto, using(crate::proofs::ChoiceLaws::choice_laws))]
-pub(crate) fn choose(cond: &Cond, space: &Space, cells: &Cells) -> Option<Choice>
+pub(crate) fn choose(
+    space: &Space,
+    cells: &Cells,
+    variables: &Variables,
+    board: &Board,
+    cond: &Cond,
+) -> Option<Choice>
     requires lists { HasShortLists space.now }
     requires places { HasShortPlaces space.now }
+    requires variables { HasVariables space.now variables.now }
+    requires board { IsBoard space.now (steps_of cells.now) board.now }
     requires open { IsOpen space.now (steps_of cells.now) }
     ensures { known space.now (steps_of cells.now) cond.now ≡ Known.Unknown
         → IsChosen space.now (steps_of cells.now) result }
@@ -173,9 +203,9 @@ pub(crate) fn choose(cond: &Cond, space: &Space, cells: &Cells) -> Option<Choice
         Cond::Never => None,
         Cond::Ext { name, needs: _ } => ext_choice(space, name),
         Cond::Param { name, test, value } => param_choice(space, name, *test, value, cells),
-        Cond::All(parts) => choice_among(parts.as_slice(), space, cells),
-        Cond::Any(parts) => choice_among(parts.as_slice(), space, cells),
-        Cond::One(parts) => choice_among(parts.as_slice(), space, cells),
-        Cond::Not(part) => choose(part.get(), space, cells),
+        Cond::All(parts) => choice_among(space, cells, variables, board, parts.as_slice()),
+        Cond::Any(parts) => choice_among(space, cells, variables, board, parts.as_slice()),
+        Cond::One(parts) => choice_among(space, cells, variables, board, parts.as_slice()),
+        Cond::Not(part) => choose(space, cells, variables, board, part.get()),
     }
 }

@@ -10,12 +10,16 @@ ghost use Rattle.udb_spec.specs.ProofText.{HasShortPlaces};
 ghost use Rattle.udb_cond.specs.Steps.{steps_of};
 ghost use Rattle.udb_refute.specs.Search.{IsOpen, HasShortLists, own_count, space_count, number_at, HoldBefore, IsChoice, IsNext, IsFound};
 ghost use Rattle.udb_refute.specs.Answers.{IsAnswer};
+ghost use Rattle.udb_refute.specs.Variables.{IsTable};
 
+use crate::boards::Board;
 use crate::choices::{Choice, choose};
 use crate::completions::first_full;
+use crate::truth::truth;
+use crate::variables::Table;
 use std::alloc::Global;
 use udb_base::{Boxed, Many, NoMemory};
-use udb_cond::{Cells, Cond, Full, Known, Partial, Proof, Space, constraint, holds3};
+use udb_cond::{Cells, Cond, Full, Known, Partial, Proof, Space};
 
 /// A completion of the configuration that meets the condition, or a proof that there is none.
 #[derive(Drop)]
@@ -60,28 +64,31 @@ fn first_open(
     space: &Space,
     part: &Partial,
     cond: &Cond,
+    table: &Table,
     first: u32,
     cells: &Cells,
 ) -> Result<Next, NoMemory>
     requires lists { HasShortLists space.now }
     requires places { HasShortPlaces space.now }
     requires few { space_count space.now + own_count part.now < 2 ^ 32 - 1 }
+    requires table { IsTable space.now part.now cond.now table.now }
     requires open { IsOpen space.now (steps_of cells.now) }
     requires first { 1 ≤ first }
     requires before { HoldBefore space.now part.now cond.now (steps_of cells.now) (first - 1) }
     ensures { IfOk result (IsNext space.now part.now cond.now (steps_of cells.now)) }
 {
+    let board = Board::of(alloc, space, cells)?;
     let last = space_count(space) + (part.constraints.len() + 1);
     for position in first..last as u32 + 1 {
         let number = number_at(space, part, position);
-        let Some(asked) = constraint(alloc, space, part, cond, number)? else {
+        let Some(asked) = table.constraint(number) else {
             continue;
         };
-        match holds3(space, &asked, cells) {
+        match truth(space, cells, &table.variables, &board, asked) {
             Known::Yes => {}
             Known::No => return Ok(Next::Failed { number }),
             Known::Unknown => {
-                return match choose(&asked, space, cells) {
+                return match choose(space, cells, &table.variables, &board, asked) {
                     Some(choice) => Ok(Next::Open { position, choice }),
                     None => Ok(Next::Failed { number }),
                 };
@@ -98,18 +105,20 @@ fn search(
     space: &Space,
     part: &Partial,
     cond: &Cond,
+    table: &Table,
     first: u32,
     cells: &Cells,
 ) -> Result<Found, NoMemory>
     requires lists { HasShortLists space.now }
     requires places { HasShortPlaces space.now }
     requires few { space_count space.now + own_count part.now < 2 ^ 32 - 1 }
+    requires table { IsTable space.now part.now cond.now table.now }
     requires open { IsOpen space.now (steps_of cells.now) }
     requires first { 1 ≤ first }
     requires before { HoldBefore space.now part.now cond.now (steps_of cells.now) (first - 1) }
     ensures { IfOk result (IsFound space.now part.now cond.now (steps_of cells.now)) }
 {
-    match first_open(alloc, space, part, cond, first, cells)? {
+    match first_open(alloc, space, part, cond, table, first, cells)? {
         Next::Met => Ok(Found::Completion(first_full(alloc, space, cells)?)),
         Next::Failed { number } => Ok(Found::Refuted(Proof::Leaf { constraint: number })),
         Next::Open { position, choice } => match choice {
@@ -118,10 +127,10 @@ fn search(
                 place,
                 count,
             } => search_split(
-                alloc, space, part, cond, position, param, place, count, cells,
+                alloc, space, part, cond, table, position, param, place, count, cells,
             ),
             Choice::Cut { place, at } => {
-                search_cut(alloc, space, part, cond, position, place, at, cells)
+                search_cut(alloc, space, part, cond, table, position, place, at, cells)
             }
         },
     }
@@ -134,6 +143,7 @@ fn search_split(
     space: &Space,
     part: &Partial,
     cond: &Cond,
+    table: &Table,
     first: u32,
     param: bool,
     place: u32,
@@ -143,6 +153,7 @@ fn search_split(
     requires lists { HasShortLists space.now }
     requires places { HasShortPlaces space.now }
     requires few { space_count space.now + own_count part.now < 2 ^ 32 - 1 }
+    requires table { IsTable space.now part.now cond.now table.now }
     requires open { IsOpen space.now (steps_of cells.now) }
     requires first { 1 ≤ first }
     requires before { HoldBefore space.now part.now cond.now (steps_of cells.now) (first - 1) }
@@ -157,7 +168,7 @@ fn search_split(
             child,
             rest: &*cells,
         };
-        match search(alloc, space, part, cond, first, &under)? {
+        match search(alloc, space, part, cond, table, first, &under)? {
             Found::Completion(full) => return Ok(Found::Completion(full)),
             Found::Refuted(proof) => parts.push(proof)?,
         }
@@ -176,6 +187,7 @@ fn search_cut(
     space: &Space,
     part: &Partial,
     cond: &Cond,
+    table: &Table,
     first: u32,
     place: u32,
     at: u64,
@@ -184,6 +196,7 @@ fn search_cut(
     requires lists { HasShortLists space.now }
     requires places { HasShortPlaces space.now }
     requires few { space_count space.now + own_count part.now < 2 ^ 32 - 1 }
+    requires table { IsTable space.now part.now cond.now table.now }
     requires open { IsOpen space.now (steps_of cells.now) }
     requires first { 1 ≤ first }
     requires before { HoldBefore space.now part.now cond.now (steps_of cells.now) (first - 1) }
@@ -195,7 +208,7 @@ fn search_cut(
         at,
         rest: &*cells,
     };
-    let below = match search(alloc, space, part, cond, first, &low)? {
+    let below = match search(alloc, space, part, cond, table, first, &low)? {
         Found::Completion(full) => return Ok(Found::Completion(full)),
         Found::Refuted(proof) => Boxed::new(alloc, proof)?,
     };
@@ -204,7 +217,7 @@ fn search_cut(
         at,
         rest: &*cells,
     };
-    let from = match search(alloc, space, part, cond, first, &high)? {
+    let from = match search(alloc, space, part, cond, table, first, &high)? {
         Found::Completion(full) => return Ok(Found::Completion(full)),
         Found::Refuted(proof) => Boxed::new(alloc, proof)?,
     };
@@ -225,5 +238,6 @@ pub fn find(alloc: Global, space: &Space, part: &Partial, cond: &Cond) -> Result
     requires few { length (constraints space.now part.now cond.now) < 2 ^ 32 - 1 }
     ensures { IfOk result (IsAnswer space.now part.now cond.now) }
 {
-    search(alloc, space, part, cond, 1, &Cells::All)
+    let table = Table::of(alloc, space, part, cond)?;
+    search(alloc, space, part, cond, &table, 1, &Cells::All)
 }

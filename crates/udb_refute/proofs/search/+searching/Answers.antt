@@ -32,7 +32,7 @@ search_split-search-requires t c =
     let less = child-less c.args.space.now path c.requires.open c.args.param c.args.place c.args.count c.loop-child.child c.requires.choice c.loop-child-test.true in
     let left = child-open c.args.space.now path c.requires.open c.args.param c.args.place c.args.count c.loop-child.child c.requires.choice c.loop-child-test.true in
     let before = hold-under c.args.space.now c.args.part.now c.args.cond.now step path (c.args.first - 1) c.requires.before in
-    (omega (arith, c.decreases, less), (c.requires.lists, (c.requires.places, (c.requires.few, (left, (c.requires.first, before))))))
+    (omega (arith, c.decreases, less), (c.requires.lists, (c.requires.places, (c.requires.few, (c.requires.table, (left, (c.requires.first, before)))))))
 
 pub search_split-loop-child-preserved : goal.search_split-loop-child-preserved
 search_split-loop-child-preserved t c =

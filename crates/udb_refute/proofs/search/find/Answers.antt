@@ -2,6 +2,9 @@ use Rattle.std.proofs.lemmas.Result.{IfOk-weaker}
 use Rattle.udb_refute.proofs.StartLaws.{start-open, start-hold, start-few, found-answer}
 use Rattle.udb_refute.proofs.search.find.Goals as goal
 
+pub of-requires : goal.of-requires
+of-requires c = start-few c.args.space.now c.args.part.now c.args.cond.now c.requires.few
+
 pub search-requires-clause-few : goal.search-requires-clause-few
 search-requires-clause-few c = start-few c.args.space.now c.args.part.now c.args.cond.now c.requires.few
 
