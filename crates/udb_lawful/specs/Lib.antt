@@ -1,0 +1,3 @@
+pub mod Misfit
+pub mod MisfitLaws
+pub mod Tests
