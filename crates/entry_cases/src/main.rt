@@ -19,7 +19,7 @@ use entries::push_entry;
 use space::space_of;
 use std::alloc::Global;
 use std::io;
-use udb_base::{Cond, Kind, Lines, Name, NoMemory, Row, Text, text};
+use udb_base::{Cond, Kind, Lines, Name, NoMemory, Row, Space, Text, text};
 use udb_entry::{ConfigEntry, Entry, EntryFault, has_alphabet, read_config, read_entry};
 
 const NO_CASE: &str = "no case";
@@ -43,23 +43,25 @@ fn broken_text(alloc: Global, rule: u8, shows: &Lines) -> Result<String, NoMemor
     Ok(told)
 }
 
-fn fault_text(alloc: Global, fault: EntryFault) -> Result<String, NoMemory> {
+fn fault_text(alloc: Global, fault: &EntryFault) -> Result<String, NoMemory> {
     match fault {
         EntryFault::Memory => "out of memory".to_string(alloc),
-        EntryFault::Broken { rule, shows } => broken_text(alloc, rule, &shows),
+        EntryFault::Broken { rule, shows } => broken_text(alloc, *rule, shows),
     }
+}
+
+fn told_entry(alloc: Global, entry: &Entry) -> Result<String, NoMemory> {
+    let mut told = "ok ".to_string(alloc)?;
+    push_entry(alloc, &mut told, entry)?;
+    Ok(told)
 }
 
 fn row_answer(alloc: Global, row: &Row) -> Result<String, NoMemory>
     requires { IsTrue (is_read_kind row.now.kind) }
 {
     match read_entry(alloc, row) {
-        Ok(entry) => {
-            let mut told = "ok ".to_string(alloc)?;
-            push_entry(alloc, &mut told, &entry)?;
-            Ok(told)
-        }
-        Err(fault) => fault_text(alloc, fault),
+        Ok(entry) => told_entry(alloc, &entry),
+        Err(fault) => fault_text(alloc, &fault),
     }
 }
 
@@ -76,29 +78,36 @@ fn entry_answer(alloc: Global, kind: Kind, rest: &str) -> Result<String, NoMemor
 
 // ---- constraints
 
-fn push_all(to: &mut String, conds: &[Cond]) -> Result<(), NoMemory> {
+fn told_conds(alloc: Global, conds: &[Cond]) -> Result<String, NoMemory> {
+    let mut told = String::new(alloc);
     for cond in conds {
-        push_cond(to, cond)?;
-        to.push_str(";")?;
+        push_cond(&mut told, cond)?;
+        told.push_str(";")?;
     }
-    Ok(())
+    Ok(told)
 }
 
-fn config_answer(alloc: Global, names: &str, entry: &ConfigEntry) -> Result<String, NoMemory> {
-    let space = space_of(alloc, names)?;
-    let part = read_config(alloc, &space, entry)?;
-    let mut told = String::new(alloc);
-    push_all(&mut told, part.constraints.as_slice())?;
-    Ok(told)
+fn constraints_in(alloc: Global, space: &Space, entry: &ConfigEntry) -> Result<String, NoMemory> {
+    let part = read_config(alloc, space, entry)?;
+    told_conds(alloc, part.constraints.as_slice())
+}
+
+fn told_constraints(alloc: Global, names: &str, entry: &Entry) -> Result<String, NoMemory> {
+    match entry {
+        Entry::Config(entry) => {
+            let space = space_of(alloc, names)?;
+            constraints_in(alloc, &space, entry)
+        }
+        _ => NO_CASE.to_string(alloc),
+    }
 }
 
 fn constraints_of(alloc: Global, names: &str, row: &Row) -> Result<String, NoMemory>
     requires { IsTrue (is_read_kind row.now.kind) }
 {
     match read_entry(alloc, row) {
-        Ok(Entry::Config(entry)) => config_answer(alloc, names, &entry),
-        Ok(_) => NO_CASE.to_string(alloc),
-        Err(fault) => fault_text(alloc, fault),
+        Ok(entry) => told_constraints(alloc, names, &entry),
+        Err(fault) => fault_text(alloc, &fault),
     }
 }
 

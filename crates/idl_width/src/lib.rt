@@ -3,7 +3,6 @@
 
 mod numbers;
 mod scopes;
-mod values;
 
 pub use numbers::width_value;
 pub use scopes::{BitsOf, BitsScope};

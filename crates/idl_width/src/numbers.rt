@@ -4,9 +4,9 @@ ghost use Rattle.std.specs.Prelude.{◌≡◌, pos, ◌+ℤ◌, ◌-ℤ◌, ◌*
 ghost use Rattle.idl_width.specs.Numbers.{clip, IsClipped, larger, width_number};
 
 use crate::scopes::{BitsScope, bits_among};
-use crate::values::{mxlen, number_or};
 use idl_tree::Width;
 use udb_base::{Full, Space};
+use udb_cond::{mxlen, number_or};
 
 #[tactic(auto, using(crate::proofs::Clipping::small_steps))]
 fn clip(number: u64) -> i64
