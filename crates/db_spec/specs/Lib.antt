@@ -1,0 +1,5 @@
+pub mod Rules
+pub mod Sites
+pub mod Entries
+pub mod Breaks
+pub mod First

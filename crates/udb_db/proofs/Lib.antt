@@ -1,0 +1,12 @@
+pub mod EarlyRules
+pub mod Examined
+pub mod Steps
+pub mod NameSteps
+pub mod NamedProofs
+pub mod AcceptLemmas
+pub mod SpaceLaws
+pub mod VersionLaws
+pub mod DomainLaws
+pub mod ValueLaws
+pub mod WidthLaws
+pub mod LawfulSpaces
