@@ -1,0 +1,4 @@
+pub mod Input
+pub mod Questions
+pub mod Replies
+pub mod Words
