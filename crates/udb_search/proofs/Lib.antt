@@ -1,0 +1,4 @@
+pub mod SameRows
+pub mod Keys
+pub mod Replied
+pub mod OneStatus

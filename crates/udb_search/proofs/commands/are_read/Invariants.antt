@@ -1,0 +1,6 @@
+use Rattle.std.proofs.Common.{All, IsTrue, take}
+use Rattle.udb_entry.specs.First.{is_read_kind}
+use Rattle.udb_search.proofs.commands.are_read.Given as goal
+
+abbrev pub invariant-loop-row : goal.invariant-loop-row
+invariant-loop-row l = All (λ r. IsTrue (is_read_kind r.kind)) (take l.row-index l.rows)
