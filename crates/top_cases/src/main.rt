@@ -1,16 +1,18 @@
-//! Reads cases, one a line, and prints each with the status of the run, and what it wrote on the
-//! output and on the output for errors, each in one line, `-` for nothing.
+//! Reads cases, one a line, and prints each with the status of the run, what it wrote on the output
+//! and on the output for errors, each in one line, `-` for nothing, and how many bytes the input
+//! still has and how many of its reads failed.
 //!
 //! A case is the words, then what is special about its objects, then pieces of the bundle below,
 //! each with what replaces it; all with ` :: ` between them. Special is that `read N`, `write N`
 //! or `refusal N`, the N-th call of the input, of the output or of the output for errors, fails,
-//! or that the input is `bytes N`, so many bytes `x`; or nothing, written `-`.
+//! or that the input is `bytes N`, so many bytes `x`; or `text`, and then the input follows in one
+//! piece; or nothing, written `-`.
 #![tactic(auto)]
 
 use case_text::{line_of, text_of};
 use std::alloc::{AllocError, Global};
 use std::{io, str};
-use udb_base::{MemorySink, MemorySource};
+use udb_base::{MemorySink, MemorySource, Source};
 use udb_top::run;
 
 const BUNDLE: &str =
@@ -48,7 +50,11 @@ fn input_of(alloc: Global, special: &str, pieces: &[&str]) -> Result<Vec<u8>, Al
     if special.starts_with("bytes ") {
         return vec![in alloc; b'x'; number_after(special, "bytes ") as usize];
     }
-    let text = bundle_of(alloc, pieces)?;
+    let text = if special == "text" {
+        text_of(alloc, pieces.first().copied().unwrap_or(""))?
+    } else {
+        bundle_of(alloc, pieces)?
+    };
     Vec::from_slice(alloc, text.as_bytes())
 }
 
@@ -60,6 +66,20 @@ fn line_of_bytes(alloc: Global, bytes: &[u8]) -> Result<String, AllocError> {
         Ok(text) => line_of(alloc, text),
         Err(_) => "no text".to_string(alloc),
     }
+}
+
+// How many bytes a source still gives, past reads that fail.
+fn bytes_left(input: &mut MemorySource) -> usize {
+    let mut buffer = [0; 4096];
+    let mut left: usize = 0;
+    for _turn in 0..8192 {
+        match input.read(&mut buffer) {
+            Ok(0) => return left,
+            Ok(count) => left = left.saturating_add(count),
+            Err(_) => {}
+        }
+    }
+    left
 }
 
 fn answer(
@@ -77,7 +97,11 @@ fn answer(
     let status = run(alloc, words.as_slice(), &mut input, &mut out, &mut err);
     let printed = line_of_bytes(alloc, out.written())?;
     let refused = line_of_bytes(alloc, err.written())?;
-    format!(in alloc; "    {status}\n    {printed}\n    {refused}")
+    let failed = input.faults();
+    let left = bytes_left(&mut input);
+    format!(in alloc;
+        "    {status}\n    {printed}\n    {refused}\n    {left} left, {failed} failed"
+    )
 }
 
 fn main(rt: HostRuntime) -> io::Result<()> {

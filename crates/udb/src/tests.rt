@@ -15,6 +15,14 @@ fn a_reader_gives_its_bytes_and_then_none(rt: HostRuntime) -> Result<(), Fail> {
     Ok(())
 }
 
+// Whether the bytes that a stream holds are these.
+fn holds(sink: &StreamSink<Vec<u8>, Vec<u8>>, bytes: &[u8]) -> bool {
+    match &sink.stream {
+        Stream::Results(held) => held.as_slice() == bytes,
+        Stream::Errors(held) => held.as_slice() == bytes,
+    }
+}
+
 #[test]
 fn both_streams_take_what_is_written(rt: HostRuntime) -> Result<(), Fail> {
     let mut results: StreamSink<Vec<u8>, Vec<u8>> = StreamSink {
@@ -22,10 +30,12 @@ fn both_streams_take_what_is_written(rt: HostRuntime) -> Result<(), Fail> {
         faults: 0,
     };
     assert!(rt; results.write(b"abc").is_ok() && results.faults == 0);
+    assert!(rt; holds(&results, b"abc"));
     let mut errors: StreamSink<Vec<u8>, Vec<u8>> = StreamSink {
         stream: Stream::Errors(Vec::new(rt.alloc())),
         faults: 0,
     };
-    assert!(rt; errors.write(b"d").is_ok() && errors.faults == 0);
+    assert!(rt; errors.write(b"not a ").is_ok() && errors.write(b"command\n").is_ok());
+    assert!(rt; errors.faults == 0 && holds(&errors, b"not a command\n"));
     Ok(())
 }

@@ -1,4 +1,4 @@
-pub mod Commands
+pub mod Answered
 pub mod Made
+pub mod OneReply
 pub mod Shown
-pub mod Statuses

@@ -9,7 +9,7 @@ use Rattle.idl_tree.specs.declared.statements.Stmt.{Stmt}
 use Rattle.entry_tree.specs.declared.ParamEntry.{ParamEntry}
 use Rattle.entry_tree.specs.declared.InstructionEntry.{InstructionEntry}
 use Rattle.first_spec.specs.declared.bundle.FirstBundle.{FirstBundle}
-use Rattle.first_spec.specs.Bundle.{IsFirst, SpellsFirst}
+use Rattle.first_spec.specs.Bundle.{IsFirst}
 use Rattle.first_prune.specs.Known.{entries_of, partial_of}
 use Rattle.first_prune.specs.Bundles.{CompletesFirst, KeepsFirst, SettlesFirst}
 use Rattle.manual_spec.specs.declared.manuals.Part.{Part}
@@ -19,7 +19,6 @@ use Rattle.manual_spec.specs.Faithful.{KeepsMean, FaithfulShown, Faithful}
 use Rattle.manual_spec.specs.Settled.{SettlesEntry, SettledShown, Settled}
 use Rattle.manual_spec.specs.Text.{manual_text}
 use Rattle.udb_top.specs.Making.{param_part, instruction_part, manual_with, IsManual, IsManualText}
-use Rattle.udb_top.specs.Run.{ShowsManual}
 use Rattle.udb_top.proofs.Shown.{made_covers}
 
 module _ (x : FirstBundle) (full : Full) (shown : List Stmt) where
@@ -51,7 +50,3 @@ result_made x full shown complete keeps settled (Err f) e = tt
 pub result_text : {E : Type 0} (x : FirstBundle) (space : Space) (manual : Manual) → space ≡ space_of (entries_of x) → (IsFirst x → IsManual x manual) → (r : Result (List ℕ) E) → IfOk r (λ text. text ≡ manual_text space manual) → IfOk r (λ text. IsFirst x → IsManualText x text)
 result_text x space manual s is (Ok text) e = λ h. record { manual = manual; is = is h; printed = e ∙ ap (λ (y : Space). manual_text y manual) s }
 result_text x space manual s is (Err f) e = tt
-
-pub result_shows : {E : Type 0} (input config : List ℕ) (x : FirstBundle) → SpellsFirst input x → (r : Result (List ℕ) E) → IfOk r (λ text. (x.config.name ≡ config) × (IsFirst x → IsManualText x text)) → IfOk r (ShowsManual input config)
-result_shows input config x s (Ok text) h = record { bundle = x; spelled = s; named = h.0; shows = h.1 s.first }
-result_shows input config x s (Err f) h = tt

@@ -1,171 +1,113 @@
--- What the program answers, writes and reads.
-use Rattle.std.specs.Prelude.{◌≡◌, ◌≢◌, ◌≤◌, ◌<◌, ◌+◌, ◌⊎◌, ◌++◌, ◌==◌, Bool, true, false, ℕ, List, [], ◌∷◌, map, take, length, codes, Option, None, Some, IfSome, string_bytes, if◌then◌else◌}
-use Rattle.std.specs.declared.string.String.{String}
-use Rattle.udb_base.specs.Names.{IsName}
+-- What the program answers to words and an input.
+use Rattle.std.specs.Prelude.{◌≡◌, ◌≢◌, ◌≤◌, ◌<◌, ◌⊎◌, ◌++◌, ℕ, List, length, codes, Option, Some}
+use Rattle.std.specs.Fmt.{decimal}
 use Rattle.udb_base.specs.Faults.{Rose}
+use Rattle.udb_command.specs.declared.commands.Command.{Command}
+use Rattle.udb_command.specs.declared.commands.Command.TheVariants.{Manual, Refute, CheckProof}
+use Rattle.udb_command.specs.declared.replies.Reply.{Reply}
+use Rattle.udb_command.specs.declared.replies.Reply.TheVariants.{Done, Refused}
+use Rattle.udb_command.specs.Words.{Asks}
+use Rattle.udb_command.specs.Input.{input_limit, IsRead}
+use Rattle.udb_command.specs.Replies.{status_of, IsReplyStatus, IsFaultStatus, IsCut}
+use Rattle.udb_bundle.specs.declared.bundle.Bundle.{Bundle}
+use Rattle.udb_bundle.specs.Bundles.{Spells}
+use Rattle.udb_bundle.specs.Faults.{SpellsNone, IsFaultLine}
 use Rattle.first_spec.specs.declared.bundle.FirstBundle.{FirstBundle}
-use Rattle.first_spec.specs.Bundle.{IsFirst, SpellsFirst}
-use Rattle.udb_top.specs.declared.running.Refusal.{Refusal}
-use Rattle.udb_top.specs.declared.running.Refusal.TheVariants as refusal
+use Rattle.first_spec.specs.Bundle.{SpellsFirst}
+use Rattle.udb_search.specs.Replies.{RefuteReplies, CheckReplies}
 use Rattle.udb_top.specs.Making.{IsManualText}
 
--- the most bytes of input
-abbrev pub input_limit : ℕ
-input_limit = 16777216
+-- ---- the command `manual`
 
--- of what an object holds or has left, where it tells it
-abbrev pub IfTold : Option (List ℕ) → (List ℕ → Type 0) → Type 0
-IfTold told P = (xs : List ℕ) → told ≡ Some xs → P xs
+-- the input is a bundle
+abbrev pub IsBundle : List ℕ → Type 0
+IsBundle input = (bundle : Bundle) × Spells input bundle
 
--- of what two objects hold or have left, where both tell it
-abbrev pub IfBothTold : Option (List ℕ) → Option (List ℕ) → (List ℕ → List ℕ → Type 0) → Type 0
-IfBothTold left written P = (xs os : List ℕ) → left ≡ Some xs → written ≡ Some os → P xs os
+-- the input is no bundle of the first form
+abbrev pub NotBuilt : List ℕ → Type 0
+NotBuilt input = (bundle : FirstBundle) → SpellsFirst input bundle → ⊥
 
--- the words as bytes
-abbrev pub words_of : {Z : Type 0} → List (String Z) → List (List ℕ)
-words_of words = map string_bytes words
+-- the input is a bundle of the first form whose configuration has another name
+pub record NoSuchConfig (input config : List ℕ) : Type 0 where
+  pub bundle : FirstBundle
+  pub spelled : SpellsFirst input bundle
+  pub other : bundle.config.name ≢ config
 
--- a word that names a configuration: a name that doesn't begin with `-`
-pub record IsNameWord (word : List ℕ) : Type 0 where
-  pub name : IsName word
-  pub dash : (rest : List ℕ) → word ≢ 45 ∷ rest
-
--- the words are the command `manual <config>`
-pub record IsManualCommand (words : List (List ℕ)) (config : List ℕ) : Type 0 where
-  pub two_words : words ≡ codes "manual" ∷ config ∷ []
-  pub named : IsNameWord config
-
--- the words aren't `manual` and one other
-abbrev pub IsOtherCommand : List (List ℕ) → Type 0
-IsOtherCommand words = (word : List ℕ) → words ≢ codes "manual" ∷ word ∷ []
-
--- the words are no command
-abbrev pub IsNoCommand : List (List ℕ) → Type 0
-IsNoCommand words = (config : List ℕ) → IsManualCommand words config → ⊥
-
-abbrev pub HasManualCommand : List (List ℕ) → Type 0
-HasManualCommand words = (config : List ℕ) × IsManualCommand words config
-
--- of the input and the configuration that the words name, where they are the command and it tells it
-abbrev pub IfCommandOn : List (List ℕ) → Option (List ℕ) → (List ℕ → List ℕ → Type 0) → Type 0
-IfCommandOn words left P = (xs config : List ℕ) → left ≡ Some xs → IsManualCommand words config → P xs config
-
--- the input is a bundle of the first path, and the text is that of a manual of its configuration
--- which has the asked name
+-- the input is a bundle of the first form whose configuration has the asked name, and the text is
+-- that of a manual of it
 pub record ShowsManual (input config text : List ℕ) : Type 0 where
   pub bundle : FirstBundle
   pub spelled : SpellsFirst input bundle
   pub named : bundle.config.name ≡ config
   pub shows : IsManualText bundle text
 
--- the bundle has the asked configuration, and the text is that of a manual of it
-abbrev pub ShowsBundle : FirstBundle → List ℕ → List ℕ → Type 0
-ShowsBundle bundle config text = (bundle.config.name ≡ config) × (IsFirst bundle → IsManualText bundle text)
-
--- the input is no bundle of the first path
-abbrev pub NotBuilt : List ℕ → Type 0
-NotBuilt input = (bundle : FirstBundle) → SpellsFirst input bundle → ⊥
-
--- the input is a bundle of the first path whose configuration has another name
-pub record NoSuchConfig (input config : List ℕ) : Type 0 where
-  pub bundle : FirstBundle
-  pub spelled : SpellsFirst input bundle
-  pub other : bundle.config.name ≢ config
-
--- more bytes than the limit were taken of the input
-abbrev pub TookTooMany : List ℕ → Option (List ℕ) → Type 0
-TookTooMany input left = (rest : List ℕ) × ((left ≡ Some rest) × (input_limit + length rest < length input))
-
-abbrev pub TookFew : List ℕ → Option (List ℕ) → Type 0
-TookFew input left = TookTooMany input left → ⊥
-
--- the input was read to its end, is within the limit, and has this text
-abbrev pub ShowsWhole : List ℕ → List ℕ → Option (List ℕ) → List ℕ → Type 0
-ShowsWhole input config left text = (left ≡ Some []) × (length input ≤ input_limit) × ShowsManual input config text
-
--- the input is within the limit and has some text
-abbrev pub HasManual : List ℕ → List ℕ → Type 0
-HasManual input config = (length input ≤ input_limit) × ((text : List ℕ) × ShowsManual input config text)
-
--- the name of the configuration among the words
-abbrev pub asked_config : List (List ℕ) → List ℕ
-asked_config (command ∷ config ∷ []) = config
-asked_config _ = []
+abbrev pub no_bundle_text : ℕ → List ℕ
+no_bundle_text number = codes "no bundle at line " ++ (decimal number ++ codes "\n")
 
 abbrev pub no_config_text : List ℕ → List ℕ
 no_config_text config = codes "no such config " ++ (config ++ codes "\n")
 
--- the text of a status on the output for errors
-abbrev pub status_text : List ℕ → ℕ → List ℕ
-status_text config n =
-    if n == 2 then codes "not a command\n"
-    else (if n == 3 then codes "read failed\n"
-    else (if n == 7 then codes "out of memory\n"
-    else (if n == 8 then codes "input too long\n"
-    else (if n == 9 then no_config_text config
-    else (if n == 12 then codes "not built\n" else [])))))
+-- its replies to an input, which is no bundle and has a first bad line, or is a bundle
+pub data ManualReplies (config input : List ℕ) : Reply → Type 0 where
+  no_bundle : (number : ℕ) → IsFaultLine input number → ManualReplies config input (Refused 10 (no_bundle_text number))
+  not_built : IsBundle input → NotBuilt input → ManualReplies config input (Refused 12 (codes "not built\n"))
+  no_such_config : IsBundle input → NoSuchConfig input config → ManualReplies config input (Refused 9 (no_config_text config))
+  manual : IsBundle input → (text : List ℕ) → ShowsManual input config text → ManualReplies config input (Done text)
 
--- the status of a refusal
-abbrev pub refusal_status : Refusal → ℕ
-refusal_status refusal.Memory = 7
-refusal_status refusal.Read = 3
-refusal_status refusal.TooLong = 8
-refusal_status refusal.NoSuchConfig = 9
-refusal_status refusal.NotBuilt = 12
+-- which status they have
+pub record ManualStatuses : Type 0 where
+  pub unread : (config input : List ℕ) (reply : Reply) → ManualReplies config input reply → SpellsNone input → status_of reply ≡ 10
+  pub unbuilt : (config input : List ℕ) (reply : Reply) → ManualReplies config input reply → IsBundle input → NotBuilt input → status_of reply ≡ 12
+  pub unnamed : (config input : List ℕ) (reply : Reply) → ManualReplies config input reply → IsBundle input → NoSuchConfig input config → status_of reply ≡ 9
+  pub shown : (config input : List ℕ) (reply : Reply) → ManualReplies config input reply → IsBundle input → (bundle : FirstBundle) → SpellsFirst input bundle → bundle.config.name ≡ config → status_of reply ≡ 0
 
--- the statuses of the command `manual`
-pub data IsShowStatus : ℕ → Type 0 where
-  done : IsShowStatus 0
-  read_failed : IsShowStatus 3
-  write_failed : IsShowStatus 4
-  memory : IsShowStatus 7
-  too_long : IsShowStatus 8
-  no_config : IsShowStatus 9
-  not_built : IsShowStatus 12
+-- ---- every command
 
--- 0 done, 2 no command, 3 a failed read, 4 a failed write, 7 want of memory, 8 an input past the
--- limit, 9 no such configuration, 12 not built
+-- the replies that a command may have to an input; which of them it has is free
+abbrev pub Replies : Command → List ℕ → Reply → Type 0
+Replies (Manual config) input reply = ManualReplies config input reply
+Replies (Refute config kind name) input reply = RefuteReplies config kind name input reply
+Replies (CheckProof config kind name) input reply = CheckReplies config kind name input reply
+
+-- the replies of a command to an input have one status
+abbrev pub OneStatus : Type 0
+OneStatus = (command : Command) (input : List ℕ) (a b : Reply) → Replies command input a → Replies command input b → status_of a ≡ status_of b
+
+-- ---- a run
+
+-- 0, 1 and 9 to 16 for replies; 2, 3, 7 and 8 for what comes in place of one; 4 for a failed write
 abbrev pub IsStatus : ℕ → Type 0
-IsStatus n = (n ≡ 2) ⊎ IsShowStatus n
+IsStatus n = IsReplyStatus n ⊎ (IsFaultStatus n ⊎ (n ≡ 4))
 
--- a success: the input was read to its end, and the output received exactly the manual's text
-pub record IsDone (config input : List ℕ) (left : Option (List ℕ)) (before : List ℕ) (written : Option (List ℕ)) : Type 0 where
-  pub whole : left ≡ Some []
-  pub within : length input ≤ input_limit
-  pub text : List ℕ
-  pub shows : ShowsManual input config text
-  pub received : written ≡ Some (before ++ text)
+-- the words ask for a command, the input was read to its end and is within its limit, and this is
+-- a reply to it
+pub record HasReply (words : List (List ℕ)) (before now : Option (List ℕ)) (reply : Reply) : Type 0 where
+  pub command : Command
+  pub asked : Asks words command
+  pub input : List ℕ
+  pub read : IsRead input before now
+  pub replied : Replies command input reply
 
--- nothing was received, or a front of the manual's text
-pub data IsFront (config input before : List ℕ) (written : Option (List ℕ)) : Type 0 where
-  nothing : written ≡ Some before → IsFront config input before written
-  front : (text : List ℕ) (n : ℕ) → ShowsManual input config text → written ≡ Some (before ++ take n text) → IsFront config input before written
+-- the same of a success of whose text the output received a front
+pub record HasCutReply (words : List (List ℕ)) (before now out_before out_now : Option (List ℕ)) : Type 0 where
+  pub reply : Reply
+  pub has : HasReply words before now reply
+  pub cut : IsCut reply out_before out_now
 
--- with no rise of a count the command is answered by the status whose cause holds, unless memory
--- runs out
-pub record IsComplete (input config : List ℕ) (status : ℕ) : Type 0 where
+-- a command's reply to the input with this status
+abbrev pub RepliesWith : Command → List ℕ → ℕ → Type 0
+RepliesWith command input status = (reply : Reply) × (Replies command input reply × (status_of reply ≡ status))
+
+-- where no count rises, the status is 8 for an input past the limit, else that of a reply, which
+-- all replies have, unless memory runs out
+pub record IsComplete (command : Command) (input : List ℕ) (status : ℕ) : Type 0 where
   pub long : input_limit < length input → (status ≡ 8) ⊎ (status ≡ 7)
-  pub unbuilt : length input ≤ input_limit → NotBuilt input → (status ≡ 12) ⊎ (status ≡ 7)
-  pub unnamed : length input ≤ input_limit → NoSuchConfig input config → (status ≡ 9) ⊎ (status ≡ 7)
-  pub shown : length input ≤ input_limit → (bundle : FirstBundle) → SpellsFirst input bundle → bundle.config.name ≡ config → (status ≡ 0) ⊎ (status ≡ 7)
+  pub some : length input ≤ input_limit → RepliesWith command input status ⊎ (status ≡ 7)
+  pub each : length input ≤ input_limit → (reply : Reply) → Replies command input reply → (status ≡ status_of reply) ⊎ (status ≡ 7)
 
--- the words are the command, and its success stands
-pub record ShowsAll (words : List (List ℕ)) (input : List ℕ) (left : Option (List ℕ)) (before : List ℕ) (written : Option (List ℕ)) : Type 0 where
-  pub config : List ℕ
-  pub command : IsManualCommand words config
-  pub shown : IsDone config input left before written
-
--- the words are the command, and of its input this holds, which is within the limit
-pub record IsCommandOn (Holds : List ℕ → List ℕ → Type 0) (words : List (List ℕ)) (input : List ℕ) : Type 0 where
-  pub config : List ℕ
-  pub command : IsManualCommand words config
-  pub within : length input ≤ input_limit
-  pub holds : Holds input config
-
--- nothing was received, or the words are the command and a front of its success
-pub data ShowsFront (words : List (List ℕ)) (input before : List ℕ) (written : Option (List ℕ)) : Type 0 where
-  none_of_it : written ≡ Some before → ShowsFront words input before written
-  some_of_it : (config : List ℕ) → IsManualCommand words config → IsFront config input before written → ShowsFront words input before written
+-- of what the input has and the command that the words ask for
+abbrev pub IfAsked : List (List ℕ) → Option (List ℕ) → (Command → List ℕ → Type 0) → Type 0
+IfAsked words told P = (command : Command) (xs : List ℕ) → Asks words command → told ≡ Some xs → P command xs
 
 abbrev pub NoRise : ℕ → ℕ → Type 0
 NoRise before now = Rose before now → ⊥

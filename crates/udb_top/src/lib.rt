@@ -1,9 +1,10 @@
 //! The commands of the program over a bundle on its input.
 #![tactic(auto)]
 
-mod input;
 mod making;
+mod manual;
 mod running;
 mod spaces;
 
-pub use running::run;
+pub use manual::manual_statuses;
+pub use running::{one_status, run};

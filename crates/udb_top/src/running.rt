@@ -1,280 +1,85 @@
-//! Commands, their statuses and the texts of these.
+//! A run of the program: the command that the words ask for, its reply to the input, and both
+//! written.
 
-ghost use Rattle.std.specs.Prelude.{◌≡◌, ◌≢◌, ◌≤◌, ◌⊎◌, ◌++◌, ◌↔◌, ◌∷◌, List, [], ℕ, true, false, Some, IsTrue, IfOk, OnErr, MatchOption, length, take, codes};
+ghost use Rattle.std.specs.Prelude.{◌≡◌, ◌≢◌, ◌≤◌, ◌⊎◌, List, [], ℕ, IfOk};
 ghost use Rattle.udb_base.specs.Faults.{Rose};
-ghost use Rattle.first_spec.specs.Bundle.{IsFirst};
-ghost use Rattle.udb_top.specs.Making.{IsManualText};
-ghost use Rattle.udb_top.specs.Run.{input_limit, words_of, IfTold, IfBothTold, IfCommandOn, IsOtherCommand, IsNameWord, IsManualCommand, HasManualCommand, IsNoCommand, ShowsManual, ShowsBundle, ShowsWhole, HasManual, NotBuilt, NoSuchConfig, TookTooMany, TookFew, IsDone, IsFront, IsShowStatus, IsStatus, ShowsAll, ShowsFront, IsCommandOn, NoRise, IsComplete, asked_config, no_config_text, status_text, refusal_status};
+ghost use Rattle.udb_command.specs.Words.{words_of, Asks, IsNoCommand};
+ghost use Rattle.udb_command.specs.Input.{IfTold, IsRead, TookTooMany, TookFew};
+ghost use Rattle.udb_command.specs.Replies.{status_of, out_of, err_of, IsReplyStatus, IsFaultStatus, fixed_text, Received};
+ghost use Rattle.udb_top.specs.Run.{Replies, OneStatus, IsStatus, HasReply, HasCutReply, IfAsked, NoRise, IsComplete};
 
-use crate::input::{InputFault, read_input};
-use crate::making::make_manual;
-use crate::spaces::space_of_bundle;
-use first_bundle::{FirstBundle, read_first};
-use std::alloc::{AllocError, Global};
-use udb_base::{Chars, NameFault, NoMemory, Sink, Source, name};
-use udb_manual::print_manual;
+use crate::manual::manual_reply;
+use std::alloc::Global;
+use udb_base::{NoMemory, Sink, Source};
+use udb_command::{Command, Fault, Reply, command_of, read_input, send, write_reply};
+use udb_search::{check_proof, refute};
 
-const DONE: u8 = 0;
-
-const NO_COMMAND: u8 = 2;
-
-const READ_FAILED: u8 = 3;
-
-const WRITE_FAILED: u8 = 4;
-
-const OUT_OF_MEMORY: u8 = 7;
-
-const INPUT_TOO_LONG: u8 = 8;
-
-const NO_SUCH_CONFIG: u8 = 9;
-
-const NOT_BUILT: u8 = 12;
-
-/// Why no manual is shown.
-#[derive(Clone, Copy, Debug, PartialEq, Eq)]
-enum Refusal {
-    Memory,
-    Read,
-    TooLong,
-    NoSuchConfig,
-    NotBuilt,
-}
-
-// Whether a word names a configuration. Memory is asked for such a word alone.
-fn names_config(alloc: Global, word: &str) -> Result<bool, NoMemory>
-    ensures answer { IfOk result (λ named. IsTrue named ↔ IsNameWord word.now) }
-    ensures memory { OnErr result (IsNameWord word.now) }
+// The reply of a command to its input.
+fn reply_to(alloc: Global, command: &Command, input: &[u8]) -> Result<Reply, NoMemory>
+    ensures { IfOk result (Replies command.now input.now) }
 {
-    if let [b'-', ..] = word.as_bytes() {
-        return Ok(false);
-    }
-    match name(alloc, word) {
-        Ok(_) => Ok(true),
-        Err(NameFault::BadName) => Ok(false),
-        Err(NameFault::Memory) => Err(AllocError),
-    }
-}
-
-// The argument of the word `manual`.
-fn argument(words: &[String]) -> Option<&str>
-    ensures { MatchOption result (IsOtherCommand (words_of words.now))
-        (λ word. words_of words.now ≡ codes "manual" ∷ word.now ∷ []) }
-{
-    match words {
-        [command, argument] => {
-            if command.as_str() == "manual" {
-                Some(argument.as_str())
-            } else {
-                None
-            }
-        }
-        _ => None,
-    }
-}
-
-// The configuration that the words name, where they are the command `manual <config>`.
-fn manual_config(alloc: Global, words: &[String]) -> Result<Option<&str>, NoMemory>
-    ensures answer { IfOk result (λ config. MatchOption config (IsNoCommand (words_of words.now))
-        (λ c. IsManualCommand (words_of words.now) c.now)) }
-    ensures memory { OnErr result (HasManualCommand (words_of words.now)) }
-{
-    match argument(words) {
-        None => Ok(None),
-        Some(config) => {
-            if names_config(alloc, config)? {
-                Ok(Some(config))
-            } else {
-                Ok(None)
-            }
+    match command {
+        Command::Manual { config } => manual_reply(alloc, config.as_str(), input),
+        Command::Refute { config, kind, name } => refute(alloc, input, config, *kind, name),
+        Command::CheckProof { config, kind, name } => {
+            check_proof(alloc, input, config, *kind, name)
         }
     }
 }
 
-// The text of the manual of the bundle's configuration.
-fn printed_manual(alloc: Global, bundle: &FirstBundle) -> Result<Chars, NoMemory>
-    ensures { IfOk result (λ text. IsFirst bundle.now → IsManualText bundle.now text) }
-{
-    let space = space_of_bundle(alloc, bundle)?;
-    let manual = make_manual(alloc, bundle)?;
-    print_manual(alloc, &space, &manual)
-}
-
-// The text of the manual of a bundle whose configuration has the asked name.
-fn manual_of_bundle(alloc: Global, config: &str, bundle: &FirstBundle) -> Result<Chars, Refusal>
-    ensures text { IfOk result (ShowsBundle bundle.now config.now) }
-    ensures other { result ≡ Err Refusal.NoSuchConfig → bundle.now.config.name ≢ config.now }
-    ensures refusals { OnErr result
-        ((result ≡ Err Refusal.NoSuchConfig) ⊎ (result ≡ Err Refusal.Memory)) }
-{
-    if bundle.config.name.as_str() != config {
-        return Err(Refusal::NoSuchConfig);
-    }
-    match printed_manual(alloc, bundle) {
-        Ok(text) => Ok(text),
-        Err(_) => Err(Refusal::Memory),
-    }
-}
-
-// The text of the manual that the input's bundle has for the named configuration.
-fn manual_of_bytes(alloc: Global, config: &str, bytes: &[u8]) -> Result<Chars, Refusal>
-    ensures text { IfOk result (ShowsManual bytes.now config.now) }
-    ensures no_config { result ≡ Err Refusal.NoSuchConfig → NoSuchConfig bytes.now config.now }
-    ensures not_built { result ≡ Err Refusal.NotBuilt → NotBuilt bytes.now }
-    ensures never_read { result ≢ Err Refusal.Read }
-    ensures never_long { result ≢ Err Refusal.TooLong }
-{
-    match read_first(alloc, bytes) {
-        Err(_) => Err(Refusal::Memory),
-        Ok(None) => Err(Refusal::NotBuilt),
-        Ok(Some(bundle)) => manual_of_bundle(alloc, config, &bundle),
-    }
-}
-
-// The text of the manual that the input has for the named configuration.
-fn manual_of_input<S: Source>(alloc: Global, config: &str, input: &mut S) -> Result<Chars, Refusal>
+// The reply of a command to what a source has left.
+fn reply_to_source<S: Source>(
+    alloc: Global,
+    command: &Command,
+    input: &mut S,
+) -> Result<Reply, Fault>
     ensures later { S.faults input.old ≤ S.faults input.new }
-    ensures read { result ≡ Err Refusal.Read → Rose (S.faults input.old) (S.faults input.new) }
-    ensures text { IfTold (S.left input.old) (λ xs.
-        IfOk result (ShowsWhole xs config.now (S.left input.new))) }
+    ensures failed { result ≡ Err Fault.Read → Rose (S.faults input.old) (S.faults input.new) }
+    ensures reply { IfOk result (λ reply. (bytes : List ℕ) × (IsRead bytes (S.left input.old)
+        (S.left input.new) × Replies command.now bytes reply)) }
     ensures too_long { IfTold (S.left input.old) (λ xs.
-        result ≡ Err Refusal.TooLong → TookTooMany xs (S.left input.new)) }
-    ensures few { IfTold (S.left input.old) (λ xs.
-        result ≢ Err Refusal.TooLong → result ≢ Err Refusal.Memory → TookFew xs (S.left input.new)) }
-    ensures no_config { IfTold (S.left input.old) (λ xs.
-        result ≡ Err Refusal.NoSuchConfig → (length xs ≤ input_limit) × NoSuchConfig xs config.now) }
-    ensures not_built { IfTold (S.left input.old) (λ xs.
-        result ≡ Err Refusal.NotBuilt → (length xs ≤ input_limit) × NotBuilt xs) }
+        result ≡ Err Fault.TooLong → TookTooMany xs (S.left input.new)) }
+    ensures few { IfTold (S.left input.old) (λ xs. result ≢ Err Fault.TooLong →
+        result ≢ Err Fault.Memory → TookFew xs (S.left input.new)) }
+    ensures asked { result ≢ Err Fault.NoCommand }
 {
     match read_input(alloc, input) {
-        Ok(bytes) => manual_of_bytes(alloc, config, bytes.as_slice()),
-        Err(InputFault::Read) => Err(Refusal::Read),
-        Err(InputFault::Memory) => Err(Refusal::Memory),
-        Err(InputFault::TooLong) => Err(Refusal::TooLong),
+        Ok(bytes) => match reply_to(alloc, command, bytes.as_slice()) {
+            Ok(reply) => Ok(reply),
+            Err(_) => Err(Fault::Memory),
+        },
+        Err(fault) => Err(fault),
     }
 }
 
-// Writes the text of a refusal; the answer is its status, unless the write fails.
-fn refuse<T: Sink>(err: &mut T, status: u8, text: &str) -> u8
-    ensures status { (result ≡ status) ⊎ (result ≡ 4) }
-    ensures failed { result ≢ status → Rose (T.faults err.old) (T.faults err.new) }
-    ensures later { T.faults err.old ≤ T.faults err.new }
-    ensures told { IfTold (T.written err.old) (λ es.
-        result ≡ status → status ≢ 4 → T.written err.new ≡ Some (es ++ text.now)) }
-{
-    match err.write(text.as_bytes()) {
-        Ok(()) => status,
-        Err(_) => WRITE_FAILED,
-    }
-}
-
-// Writes the text of a success.
-fn deliver<T: Sink>(out: &mut T, text: &[u8]) -> u8
-    ensures status { (result ≡ 0) ⊎ (result ≡ 4) }
-    ensures failed { result ≢ 0 → Rose (T.faults out.old) (T.faults out.new) }
-    ensures later { T.faults out.old ≤ T.faults out.new }
-    ensures told { IfTold (T.written out.old) (λ os.
-        result ≡ 0 → T.written out.new ≡ Some (os ++ text.now)) }
-    ensures front { IfTold (T.written out.old) (λ os.
-        (n : ℕ) × (T.written out.new ≡ Some (os ++ take n text.now))) }
-{
-    match out.write(text) {
-        Ok(()) => DONE,
-        Err(_) => WRITE_FAILED,
-    }
-}
-
-// Writes a piece of a text; whether that was done.
-fn put<T: Sink>(err: &mut T, piece: &[u8]) -> bool
-    ensures failed { result ≡ false → Rose (T.faults err.old) (T.faults err.new) }
-    ensures later { T.faults err.old ≤ T.faults err.new }
-    ensures told { IfTold (T.written err.old) (λ es.
-        result ≡ true → T.written err.new ≡ Some (es ++ piece.now)) }
-{
-    match err.write(piece) {
-        Ok(()) => true,
-        Err(_) => false,
-    }
-}
-
-// Writes that there is no such configuration.
-fn refuse_config<T: Sink>(err: &mut T, config: &str) -> u8
-    ensures status { (result ≡ 9) ⊎ (result ≡ 4) }
-    ensures failed { result ≢ 9 → Rose (T.faults err.old) (T.faults err.new) }
-    ensures later { T.faults err.old ≤ T.faults err.new }
-    ensures told { IfTold (T.written err.old) (λ es.
-        result ≡ 9 → T.written err.new ≡ Some (es ++ no_config_text config.now)) }
-{
-    if !put(err, b"no such config ") {
-        return WRITE_FAILED;
-    }
-    if !put(err, config.as_bytes()) {
-        return WRITE_FAILED;
-    }
-    refuse(err, NO_SUCH_CONFIG, "\n")
-}
-
-// Writes the text of a refusal; the answer is its status, unless a write fails.
-fn answer<T: Sink>(err: &mut T, config: &str, refusal: Refusal) -> u8
-    ensures status { (result ≡ refusal_status refusal) ⊎ (result ≡ 4) }
-    ensures failed { result ≢ refusal_status refusal → Rose (T.faults err.old) (T.faults err.new) }
-    ensures later { T.faults err.old ≤ T.faults err.new }
-    ensures told { IfTold (T.written err.old) (λ es. result ≡ refusal_status refusal →
-        T.written err.new ≡ Some (es ++ status_text config.now (refusal_status refusal))) }
-{
-    match refusal {
-        Refusal::Read => refuse(err, READ_FAILED, "read failed\n"),
-        Refusal::Memory => refuse(err, OUT_OF_MEMORY, "out of memory\n"),
-        Refusal::TooLong => refuse(err, INPUT_TOO_LONG, "input too long\n"),
-        Refusal::NoSuchConfig => refuse_config(err, config),
-        Refusal::NotBuilt => refuse(err, NOT_BUILT, "not built\n"),
-    }
-}
-
-// The command `manual`.
-fn show<S: Source, T: Sink>(
-    alloc: Global,
-    config: &str,
-    input: &mut S,
-    out: &mut T,
-    err: &mut T,
-) -> u8
-    ensures status { IsShowStatus result }
-    ensures input_later { S.faults input.old ≤ S.faults input.new }
-    ensures out_later { T.faults out.old ≤ T.faults out.new }
-    ensures err_later { T.faults err.old ≤ T.faults err.new }
-    ensures read { result ≡ 3 → Rose (S.faults input.old) (S.faults input.new) }
-    ensures write { result ≡ 4 →
-        Rose (T.faults out.old) (T.faults out.new) ⊎ Rose (T.faults err.old) (T.faults err.new) }
-    ensures done { IfBothTold (S.left input.old) (T.written out.old) (λ xs os.
-        result ≡ 0 → IsDone config.now xs (S.left input.new) os (T.written out.new)) }
-    ensures shown { IfTold (S.left input.old) (λ xs. result ≡ 0 → HasManual xs config.now) }
+// The reply to the words and to what the source has left.
+fn reply_to_words<S: Source>(alloc: Global, words: &[String], input: &mut S) -> Result<Reply, Fault>
+    ensures later { S.faults input.old ≤ S.faults input.new }
+    ensures no_command { result ≡ Err Fault.NoCommand → IsNoCommand (words_of words.now) }
+    ensures command { IsNoCommand (words_of words.now) →
+        (result ≡ Err Fault.NoCommand) × (input.new ≡ input.old) }
+    ensures failed { result ≡ Err Fault.Read → Rose (S.faults input.old) (S.faults input.new) }
+    ensures reply { IfOk result
+        (HasReply (words_of words.now) (S.left input.old) (S.left input.new)) }
     ensures too_long { IfTold (S.left input.old) (λ xs.
-        result ≡ 8 → TookTooMany xs (S.left input.new)) }
-    ensures too_many { IfTold (S.left input.old) (λ xs.
-        TookTooMany xs (S.left input.new) → (result ≡ 8) ⊎ ((result ≡ 7) ⊎ (result ≡ 4))) }
-    ensures no_config { IfTold (S.left input.old) (λ xs.
-        result ≡ 9 → (length xs ≤ input_limit) × NoSuchConfig xs config.now) }
-    ensures not_built { IfTold (S.left input.old) (λ xs.
-        result ≡ 12 → (length xs ≤ input_limit) × NotBuilt xs) }
-    ensures errors { IfTold (T.written err.old) (λ es.
-        result ≢ 4 → T.written err.new ≡ Some (es ++ status_text config.now result)) }
-    ensures silent { IfTold (T.written out.old) (λ os.
-        result ≢ 0 → result ≢ 4 → T.written out.new ≡ Some os) }
-    ensures front { IfBothTold (S.left input.old) (T.written out.old) (λ xs os.
-        result ≡ 4 → IsFront config.now xs os (T.written out.new)) }
+        result ≡ Err Fault.TooLong → TookTooMany xs (S.left input.new)) }
+    ensures few { IfTold (S.left input.old) (λ xs. result ≢ Err Fault.TooLong →
+        result ≢ Err Fault.Memory → TookFew xs (S.left input.new)) }
 {
-    match manual_of_input(alloc, config, input) {
-        Ok(text) => deliver(out, text.as_bytes()),
-        Err(refusal) => answer(err, config, refusal),
+    match command_of(alloc, words) {
+        Ok(Some(command)) => reply_to_source(alloc, &command, input),
+        Ok(None) => Err(Fault::NoCommand),
+        Err(_) => Err(Fault::Memory),
     }
 }
 
-/// Runs the command that the words are: `manual <config>` reads a bundle from `input`, prints the
-/// manual of its configuration on `out`, and otherwise the text of a status on `err`. The words are
-/// those after the program's name. The answer is the status: 0 done, 2 no command, 3 a failed read,
-/// 4 a failed write, 7 want of memory, 8 an input of more than 16,777,216 bytes, 9 a bundle of
-/// another configuration, 12 an input that is no bundle. Causes are met in this order: 2; 3 or 8,
-/// whichever reading meets first; 12; 9; 4. Memory may want at any of them.
+/// Runs the command that the words ask for: its reply to what `input` has is written, a success on
+/// `out`, a refusal on `err`. The words are those after the program's name. The answer is the
+/// status: 0 done, 2 no command, 3 a failed read, 4 a failed write, 7 want of memory, 8 an input of
+/// more than 16,777,216 bytes, and 1 or 9 to 16 as the command refuses its input: of `manual` 9 a
+/// bundle of another configuration, 10 an input that is no bundle, 12 a bundle of another form.
+/// Causes are met in this order: 2; 3 or 8, whichever reading meets first; the command's own; 4.
+/// Memory may want at any of them.
 pub fn run<S: Source, T: Sink>(
     alloc: Global,
     words: &[String],
@@ -283,43 +88,46 @@ pub fn run<S: Source, T: Sink>(
     err: &mut T,
 ) -> u8
     ensures status { IsStatus result }
-    ensures input_later { S.faults input.old ≤ S.faults input.new }
-    ensures out_later { T.faults out.old ≤ T.faults out.new }
-    ensures err_later { T.faults err.old ≤ T.faults err.new }
+    ensures later { (S.faults input.old ≤ S.faults input.new)
+        × (T.faults out.old ≤ T.faults out.new) × (T.faults err.old ≤ T.faults err.new) }
 
+    // The words, and the input.
     ensures no_command { result ≡ 2 → IsNoCommand (words_of words.now) }
-    ensures command { IsNoCommand (words_of words.now) → (result ≡ 2) ⊎ (result ≡ 4) }
+    ensures command { IsNoCommand (words_of words.now) → (input.new ≡ input.old)
+        × ((result ≡ 2) ⊎ ((result ≡ 4) × Rose (T.faults err.old) (T.faults err.new))) }
     ensures read { result ≡ 3 → Rose (S.faults input.old) (S.faults input.new) }
-    ensures write { result ≡ 4 →
-        Rose (T.faults out.old) (T.faults out.new) ⊎ Rose (T.faults err.old) (T.faults err.new) }
-
-    // What content tells: the manual that was shown, and the input that was refused.
-    ensures done { IfBothTold (S.left input.old) (T.written out.old) (λ xs os.
-        result ≡ 0 → ShowsAll (words_of words.now) xs (S.left input.new) os (T.written out.new)) }
     ensures too_long { IfTold (S.left input.old) (λ xs.
         result ≡ 8 → TookTooMany xs (S.left input.new)) }
-    ensures too_many { IfTold (S.left input.old) (λ xs.
-        TookTooMany xs (S.left input.new) → (result ≡ 8) ⊎ ((result ≡ 7) ⊎ (result ≡ 4))) }
-    ensures no_config { IfTold (S.left input.old) (λ xs.
-        result ≡ 9 → IsCommandOn NoSuchConfig (words_of words.now) xs) }
-    ensures not_built { IfTold (S.left input.old) (λ xs.
-        result ≡ 12 → IsCommandOn (λ input config. NotBuilt input) (words_of words.now) xs) }
-    ensures complete { IfCommandOn (words_of words.now) (S.left input.old) (λ xs config.
+    ensures too_many { IfTold (S.left input.old) (λ xs. TookTooMany xs (S.left input.new) →
+        (result ≡ 8) ⊎ ((result ≡ 7)
+        ⊎ ((result ≡ 4) × Rose (T.faults err.old) (T.faults err.new)))) }
+
+    // The reply, what comes in place of one, and a failed write.
+    ensures replied { IsReplyStatus result → (reply : Reply)
+        × (HasReply (words_of words.now) (S.left input.old) (S.left input.new) reply
+        × (status_of reply ≡ result)
+        × Received (T.written out.old) (T.written out.new) (out_of reply)
+        × Received (T.written err.old) (T.written err.new) (err_of reply)) }
+    ensures fixed { IsFaultStatus result → Received (T.written out.old) (T.written out.new) []
+        × Received (T.written err.old) (T.written err.new) (fixed_text result) }
+    ensures cut { result ≡ 4 →
+        (Rose (T.faults err.old) (T.faults err.new)
+        × Received (T.written out.old) (T.written out.new) [])
+        ⊎ (Rose (T.faults out.old) (T.faults out.new)
+        × HasCutReply (words_of words.now) (S.left input.old) (S.left input.new)
+        (T.written out.old) (T.written out.new)) }
+    ensures complete { IfAsked (words_of words.now) (S.left input.old) (λ command xs.
         NoRise (S.faults input.old) (S.faults input.new) →
         NoRise (T.faults out.old) (T.faults out.new) →
-        NoRise (T.faults err.old) (T.faults err.new) → IsComplete xs config result) }
-
-    // What both outputs received.
-    ensures errors { IfTold (T.written err.old) (λ es. result ≢ 4 →
-        T.written err.new ≡ Some (es ++ status_text (asked_config (words_of words.now)) result)) }
-    ensures silent { IfTold (T.written out.old) (λ os.
-        result ≢ 0 → result ≢ 4 → T.written out.new ≡ Some os) }
-    ensures front { IfBothTold (S.left input.old) (T.written out.old) (λ xs os.
-        result ≡ 4 → ShowsFront (words_of words.now) xs os (T.written out.new)) }
+        NoRise (T.faults err.old) (T.faults err.new) → IsComplete command xs result) }
 {
-    match manual_config(alloc, words) {
-        Ok(Some(config)) => show(alloc, config, input, out, err),
-        Ok(None) => refuse(err, NO_COMMAND, "not a command\n"),
-        Err(_) => refuse(err, OUT_OF_MEMORY, "out of memory\n"),
+    match reply_to_words(alloc, words, input) {
+        Ok(reply) => write_reply(out, err, &reply),
+        Err(fault) => send(err, fault),
     }
 }
+
+/// The replies of a command to an input have one status. This is a law on the definitions.
+pub fn one_status()
+    ensures { OneStatus }
+{}
