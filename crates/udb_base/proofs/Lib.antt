@@ -1,1 +1,4 @@
 pub mod LineLemmas
+pub mod FrontLemmas
+mod KeyLemmas
+pub mod OrderLemmas

@@ -1,7 +1,11 @@
 pub mod Faults
+pub mod Fronts
 pub mod Kinds
 pub mod Lines
+pub mod Links
 pub mod Lists
 pub mod Memory
 pub mod Names
+pub mod Order
+pub mod Tables
 pub mod Texts

@@ -1,5 +1,5 @@
 -- Lists of parts that may be missing, and lists without repeats.
-use Rattle.std.specs.Prelude.{ℕ, ◌≡◌, ◌∷◌, ◌++◌, ◌&&◌, Bool, true, not, List, [], Option, None, Some, option_map, option_and_then}
+use Rattle.std.specs.Prelude.{◌≡◌, ◌∷◌, ◌++◌, ◌&&◌, Bool, true, not, List, [], Option, None, Some, option_map, option_and_then}
 use Rattle.std.specs.List.{list_any}
 use Rattle.std.proofs.Common.{refl, ap, append_assoc, append-nil}
 

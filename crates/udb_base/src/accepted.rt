@@ -2,7 +2,7 @@
 
 ghost use Rattle.std.specs.Prelude.{◌≡◌, ◌↔◌, ◌≤◌, ◌<◌, ◌+◌, ◌==◌, ℕ, length, IfOk, IsTrue, IsUtf8, count_by};
 ghost use Rattle.udb_base.specs.Names.{IsName, IsNameByte};
-ghost use Rattle.udb_base.specs.Texts.{IsBadLine};
+ghost use Rattle.udb_base.specs.Texts.{IsBadLine, IsNotUtf8, IsNotUtf8At};
 
 use crate::names::{Name, NameFault};
 use crate::rows::{Text, TextFault};
@@ -54,8 +54,8 @@ fn line_after(front: &[u8]) -> u32
 pub fn text(alloc: Global, bytes: &[u8]) -> Result<Text, TextFault>
     ensures ok { IfOk result (λ t. (t ≡ bytes.now) × IsUtf8 bytes.now) }
     ensures too_long { (result ≡ Err TextFault.TooLong) ↔ (65536 < length bytes.now) }
-    ensures not_utf8 { length bytes.now ≤ 65536 → ¬ (IsUtf8 bytes.now) → (line : ℕ) × (result ≡ Err (TextFault.NotUtf8 line)) }
-    ensures at_line { (line : ℕ) → result ≡ Err (TextFault.NotUtf8 line) → IsBadLine bytes.now line }
+    ensures not_utf8 { length bytes.now ≤ 65536 → ¬ (IsUtf8 bytes.now) → IsNotUtf8 result }
+    ensures at_line { (line : ℕ) → IsNotUtf8At line result → IsBadLine bytes.now line }
 {
     if bytes.len() > TEXT_LIMIT {
         return Err(TextFault::TooLong);

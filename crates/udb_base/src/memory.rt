@@ -1,8 +1,8 @@
 //! A source and a sink in memory, which fail exactly at listed calls and past a room.
 
 ghost use Rattle.std.specs.Prelude.{◌≡◌, ◌≤◌, length, IfOk, Some};
-ghost use Rattle.udb_base.specs.Faults.{HasCause, ReadTakes, WriteReceives};
-ghost use Rattle.udb_base.specs.Memory.{one_more, CountsFailures, FailsWhereListed, FailsWhereListedOrFull, IsNewSource, IsNewSink};
+ghost use Rattle.udb_base.specs.Faults.{HasCause, ReadTakes, Receives};
+ghost use Rattle.udb_base.specs.Memory.{one_more, CountsFailures, FailsWhereListed, SinkFails, IsNewSource, IsNewSink};
 
 use crate::NoMemory;
 use crate::outside::{Failed, Sink, Source};
@@ -63,8 +63,9 @@ impl Source for MemorySource {
         ensures bytes { ReadTakes (Some self.old.left) (Some self.new.left) result into.new }
         ensures cause { HasCause self.old.faults self.new.faults result }
         ensures counted { CountsFailures self.old.faults self.new.faults result }
-        ensures listed { FailsWhereListed self.old result }
-        ensures calls { (self.new.fails ≡ self.old.fails) × (self.new.calls ≡ one_more self.old.calls) }
+        ensures listed { FailsWhereListed self.old.fails self.old.calls result }
+        ensures fails { self.new.fails ≡ self.old.fails }
+        ensures calls { self.new.calls ≡ one_more self.old.calls }
     {
         self.calls = self.calls.saturating_add(1);
         if self.fails.contains(&self.calls) {
@@ -137,11 +138,12 @@ impl Sink for MemorySink {
     ghost written = { λ s. Some s.written };
 
     fn write(&mut self, piece: &[u8]) -> Result<(), Failed>
-        ensures bytes { WriteReceives (Some self.old.written) (Some self.new.written) result piece.now }
+        ensures bytes { Receives self.old.written (Some self.new.written) result piece.now }
         ensures cause { HasCause self.old.faults self.new.faults result }
         ensures counted { CountsFailures self.old.faults self.new.faults result }
-        ensures listed { FailsWhereListedOrFull self.old piece.now result }
-        ensures calls { (self.new.fails ≡ self.old.fails) × (self.new.calls ≡ one_more self.old.calls) }
+        ensures listed { SinkFails self.old piece.now result }
+        ensures fails { self.new.fails ≡ self.old.fails }
+        ensures calls { self.new.calls ≡ one_more self.old.calls }
         ensures room { self.new.room ≡ self.old.room }
     {
         self.calls = self.calls.saturating_add(1);

@@ -2,7 +2,7 @@
 
 ghost use Rattle.std.specs.Prelude.{◌≡◌, IfOk};
 
-use crate::{Kind, Name, NoMemory};
+use crate::{Kind, Many, Name, NoMemory};
 use std::alloc::Global;
 use std::marker::Model;
 
@@ -52,6 +52,16 @@ pub struct Row {
     pub name: Name,
     pub text: Text,
 }
+
+/// The key of a row.
+#[derive(Drop)]
+pub struct RowKey {
+    pub kind: Kind,
+    pub name: Name,
+}
+
+/// Keys, which contracts see as the list itself.
+pub type RowKeys = Many<RowKey>;
 
 /// Why bytes are no text of an entry. Lines count from 1.
 #[derive(Clone, Copy, Debug, PartialEq, Eq)]

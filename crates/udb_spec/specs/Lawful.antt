@@ -2,8 +2,7 @@
 use Rattle.std.specs.Prelude.{◌≡◌, ◌≢◌, ◌≤◌, ◌&&◌, ◌⊎◌, Bool, true, false, IsTrue, ℕ, List, [], ◌∷◌, length, Option, None, Some, IfSome, All, AllPairs, codes, if◌then◌else◌}
 use Rattle.std.specs.List.{list_all, list_any, AllZip}
 use Rattle.std.specs.Option.{option_map_or}
-use Rattle.std.specs.Cmp.Lexicographic.{slice_cmp}
-use Rattle.std.specs.Ordering.{nat_cmp, is_lt}
+pub use Rattle.udb_base.specs.Names.{name_lt}
 use Rattle.udb_base.specs.declared.conditions.Value.{Value}
 use Rattle.udb_base.specs.declared.conditions.Value.TheVariants.{Flag, Number, Word}
 use Rattle.udb_base.specs.declared.conditions.Test.{Test}
@@ -19,10 +18,6 @@ use Rattle.udb_base.specs.declared.spaces.Space.{Space}
 use Rattle.udb_base.specs.declared.spaces.Full.{Full}
 use Rattle.udb_spec.specs.Versions.{version_lt, IsListed}
 use Rattle.udb_spec.specs.Conditions.{same_bytes}
-
--- names are ordered by their bytes
-abbrev pub name_lt : List ℕ → List ℕ → Bool
-name_lt a b = is_lt (slice_cmp nat_cmp a b)
 
 -- the value is of the domain's kind
 abbrev pub is_of_kind : Domain → Value → Bool

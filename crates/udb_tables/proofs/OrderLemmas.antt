@@ -16,55 +16,10 @@ use Rattle.std.proofs.lemmas.Map.Lookups.{exact_bytes}
 use Rattle.udb_base.specs.declared.kinds.Kind.{Kind}
 use Rattle.udb_base.specs.declared.kinds.Kind.TheVariants.{Extension, Parameter, Instruction, Csr, Functions, Config}
 use Rattle.udb_base.specs.declared.rows.Row.{Row}
+pub use Rattle.udb_base.proofs.OrderLemmas.{row_total, row_weak, row_lt-cmp, kind_place-is, tie_is, one_way}
 use Rattle.udb_tables.specs.Order.{kind_place, key_lt, row_lt, row_cmp, IsInOrder, HasOtherKey, HasDistinctKeys}
 
--- ---- the order is total
-
-pub row_total : IsTotalOrder row_cmp
-row_total = then_total (on_total (λ (r : Row). kind_place r.kind) nat_cmp_total) (on_total (λ (r : Row). r.name) nat_list_cmp_total)
-
-pub row_weak : IsStrictWeakOrder (λ a b. is_lt (row_cmp a b))
-row_weak = ranks_by row_total (λ r. r)
-
-lt_test : (l e : Bool) (o : Ordering) → is_lt (ordering_then (cond l Less (cond e Equal Greater)) o) ≡ (l || (e && is_lt o))
-lt_test true e o = refl
-lt_test false true o = refl
-lt_test false false o = refl
-
-pub row_lt-cmp : (a b : Row) → is_lt (row_cmp a b) ≡ row_lt a b
-row_lt-cmp a b = lt_test _ _ _
-
 -- ---- rows that tie have one key
-
-kind_at : ℕ → Kind
-kind_at zero = Extension
-kind_at (suc zero) = Parameter
-kind_at (suc (suc zero)) = Instruction
-kind_at (suc (suc (suc zero))) = Csr
-kind_at (suc (suc (suc (suc zero)))) = Functions
-kind_at (suc (suc (suc (suc (suc n))))) = Config
-
-kind_back : (k : Kind) → kind_at (kind_place k) ≡ k
-unfolding kind_at
-kind_back Extension = refl
-kind_back Parameter = refl
-kind_back Instruction = refl
-kind_back Csr = refl
-kind_back Functions = refl
-kind_back Config = refl
-
-pub kind_place-is : (j k : Kind) → kind_place j ≡ kind_place k → j ≡ k
-kind_place-is j k e = sym (kind_back j) ∙ ap kind_at e ∙ kind_back k
-
-then_equal : (p q : Ordering) → ordering_then p q ≡ Equal → (p ≡ Equal) × (q ≡ Equal)
-then_equal Less q e = absurd (cc)
-then_equal Equal q e = (refl, e)
-then_equal Greater q e = absurd (cc)
-
-pub tie_is : (a b : Row) → row_cmp a b ≡ Equal → (a.kind ≡ b.kind) × (a.name ≡ b.name)
-tie_is a b e =
-    let both = then_equal (nat_cmp (kind_place a.kind) (kind_place b.kind)) (slice_cmp nat_cmp a.name b.name) e in
-    (kind_place-is a.kind b.kind (ranked (kind_place a.kind) (kind_place b.kind) Equal (sym both.0)), exact_bytes a.name b.name both.1)
 
 strict_by : (a b : Row) (o : Ordering) → row_cmp b a ≡ o → is_lt o ≡ false → HasOtherKey a b → is_lt (row_cmp a b) ≡ true
 strict_by a b Less e n d = absurd (cc)
@@ -136,14 +91,6 @@ pub in_order : (xs ys : List Row) → HasDistinctKeys xs → IsPermutation xs ys
 in_order xs ys h p s i j d lt b = strict (get_or ys i d) (get_or ys j d) (sorted_far (λ a b. is_lt (row_cmp a b)) row_weak ys s i j d (omega arith) b) (distinct_kept xs ys h p i j d lt b)
 
 -- ---- places of rows in order
-
-no_way_back : (o : Ordering) → is_lt o ≡ true → is_lt (ordering_reverse o) ≡ true → ⊥
-no_way_back Less h g = absurd (cc)
-no_way_back Equal h g = absurd (cc)
-no_way_back Greater h g = absurd (cc)
-
-pub one_way : (a b : Row) → row_lt a b ≡ true → row_lt b a ≡ true → ⊥
-one_way a b h g = no_way_back (row_cmp a b) (row_lt-cmp a b ∙ h) (ap is_lt (sym (row_total.antisymm b a)) ∙ (row_lt-cmp b a ∙ g))
 
 -- the lesser row stands before the other
 pub before_at : (l : List Row) → IsInOrder l → (i j : ℕ) (a b : Row) → i < length l → j < length l → a ≡ get_or l i a → b ≡ get_or l j b → row_lt a b ≡ true → (i ≡ j → ⊥) → (j < i → ⊥) → i < j
