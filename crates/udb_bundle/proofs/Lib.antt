@@ -4,6 +4,7 @@ pub mod Cuts
 pub mod NameLemmas
 pub mod FrontLemmas
 pub mod HeadingLemmas
+pub mod Keys
 pub mod KeepLemmas
 pub mod Numerals
 pub mod PartLemmas

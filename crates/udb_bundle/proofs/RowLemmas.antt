@@ -41,7 +41,7 @@ lines_utf8 (l ∷ ls) h =
 
 with_row : (p : Part) (ps : List Part) → IsPart p → All IsUtf8 (body p) → All IsRow (rows_of ps) → All IsRow (rows_of (p ∷ ps))
 with_row (entry kind name lines) ps part u h =
-    All-cons IsRow (record { kind = kind; name = name; text = text_of_lines lines }) (rows_of ps) (record { name = part.0; short = part.1; utf8 = lines_utf8 lines u }) h
+    All-cons IsRow (record { kind = kind; name = name; text = text_of_lines lines }) (rows_of ps) (record { name = part.0; text = lines_utf8 lines u; short = part.1 }) h
 with_row shipped ps part u h = h
 with_row (image lines) ps part u h = h
 with_row (proof lines) ps part u h = h

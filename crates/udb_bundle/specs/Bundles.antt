@@ -9,6 +9,7 @@ use Rattle.udb_base.specs.declared.rows.Row.{Row}
 use Rattle.udb_base.specs.Kinds.{kind_word}
 use Rattle.udb_base.specs.Lines.{text_of_lines}
 use Rattle.udb_base.specs.Names.{IsName}
+pub use Rattle.udb_base.specs.Tables.{IsRow}
 use Rattle.udb_bundle.specs.declared.bundle.Bundle.{Bundle}
 
 -- ---- lines
@@ -113,9 +114,3 @@ Spells bytes b = SpellsLines (lines_of bytes) b
 abbrev pub HasDistinctKeys : List Row → Type 0
 HasDistinctKeys [] = Unit {0}
 HasDistinctKeys (r ∷ rs) = All (λ q. q.kind ≡ r.kind → q.name ≡ r.name → ⊥) rs × HasDistinctKeys rs
-
--- a name, and a text in UTF-8 of at most 65,536 bytes
-pub record IsRow (r : Row) : Type 0 where
-  pub name : IsName r.name
-  pub short : length r.text ≤ 65536
-  pub utf8 : IsUtf8 r.text

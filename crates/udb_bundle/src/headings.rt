@@ -1,7 +1,6 @@
 //! The headings of parts.
 
 ghost use Rattle.std.specs.Prelude.{◌≡◌, None, Some, MatchOption, IfOk, if◌then◌else◌};
-ghost use Rattle.udb_base.specs.Kinds as kinds;
 ghost use Rattle.udb_bundle.specs.Reading as reading;
 
 use std::alloc::{AllocError, Global};
@@ -14,20 +13,6 @@ pub enum PartKind {
     Shipped,
     Image,
     Proof,
-}
-
-/// The word by which a heading names a kind.
-pub fn kind_word(kind: Kind) -> &'static str
-    ensures { result.now ≡ kinds.kind_word kind }
-{
-    match kind {
-        Kind::Extension => "extension",
-        Kind::Parameter => "parameter",
-        Kind::Instruction => "instruction",
-        Kind::Csr => "csr",
-        Kind::Functions => "functions",
-        Kind::Config => "config",
-    }
 }
 
 /// The part that the first word of a heading names.

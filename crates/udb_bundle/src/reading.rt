@@ -6,12 +6,12 @@ ghost use Rattle.udb_bundle.specs.Titles.{HasTitles};
 
 use crate::bundle::{Bundle, Rows, Words};
 use crate::faults::LineFault;
-use crate::headings::{PartKind, heading_words, kind_word, name_of, part_kind};
+use crate::headings::{PartKind, heading_words, name_of, part_kind};
 use crate::numbers::{Count, count_within, word};
 use std::alloc::{AllocError, Global};
 use std::collections::BTreeSet;
 use std::mem;
-use udb_base::{Chars, Kind, Lines, Name, NoMemory, Row, TEXT_LIMIT, Text, text};
+use udb_base::{Chars, Kind, Lines, Name, NoMemory, Row, TEXT_LIMIT, Text, kind_word, text};
 
 /// The most words of an image.
 const IMAGE_LIMIT: u32 = 16_384;

@@ -1,6 +1,6 @@
 pub mod CheckLaws
 pub mod NodeLaws
-pub mod Sound
+pub mod Flawless
 pub mod TextLaws
 pub mod HeadLaws
 pub mod Forest

@@ -4,8 +4,7 @@ use Rattle.std.specs.List.{list_all, list_any, range_with_len}
 use Rattle.std.specs.Option.{option_map, option_map_or, option_and_then}
 use Rattle.std.specs.Cmp.Lexicographic.{bytes_decides}
 use Rattle.std.proofs.lemmas.Option.{same_Some, none-some}
-use Rattle.std.proofs.lemmas.Bool.{cases_lt, cases_eq, eq-eqb, ne_eqb, lt-ltb, le-ltb, leb-true, ltb-true, and_from, false≢true, true≢false}
-use Rattle.std.proofs.lemmas.List.{length-map}
+use Rattle.std.proofs.lemmas.Bool.{cases_lt, cases_eq, eq-eqb, ne_eqb, lt-ltb, le-ltb, leb-true, ltb-true, false≢true}
 use Rattle.std.proofs.lemmas.List.FromFn.{length-range_with_len}
 use Rattle.udb_base.specs.declared.versions.Version.{Version}
 use Rattle.udb_base.specs.declared.versions.Listed.{Listed}
@@ -26,19 +25,13 @@ use Rattle.udb_spec.specs.Conditions.{same_bytes, same_value, choice_meets, pass
 use Rattle.udb_spec.specs.Spaces.{first_value}
 use Rattle.udb_spec.specs.Constraints.{ext_constraint, needs_constraint, first_constraint, has_value}
 use Rattle.udb_spec.specs.Lawful.{name_lt, Lawful, IsLawfulParam, IsLawfulDomain}
-use Rattle.udb_spec.specs.Cells.{Step, Child, Below, From, allows, kept, choices_of, values_of, numbers_of, range_of, child_of, range_left, narrowed, ext_cells, param_cells}
+use Rattle.udb_spec.specs.Cells.{Step, Child, Below, From, allows, kept, choices_of, numbers_of, range_of, child_of, range_left, narrowed, ext_cells, param_cells}
 use Rattle.udb_spec.specs.Known.{is_yes, is_no, known_over, ext_known, param_known, any_known, not_known, known}
 use Rattle.udb_spec.specs.KnownLaws.{known-Never, known-Ext, known-Param, known-Any, known-Not}
-use Rattle.udb_spec.specs.Refutes.{splits, is_unsplit, cells_left}
+use Rattle.udb_spec.specs.Refutes.{is_unsplit, cells_left}
+use Rattle.udb_cond.proofs.Splits.{children_of}
+use Rattle.udb_cond.proofs.Unsplit.{values-unsplit, choices-unsplit}
 use Rattle.udb_check.specs.Nodes.{some_open, first_value_fails, values_left}
-
-or-left-false : (a b : Bool) → (a || b) ≡ false → a ≡ false
-or-left-false true b e = e
-or-left-false false b e = refl
-
-or-right-false : (a b : Bool) → (a || b) ≡ false → b ≡ false
-or-right-false true b e = cc
-or-right-false false b e = e
 
 -- ---- two parts of which both have to fail
 
@@ -301,43 +294,18 @@ lawful-domain space place p lawful found = let at = get-some space.params place 
 
 -- ---- what is left of a variable that wasn't split
 
-unsplit-if : (b : Bool) (param : Bool) (place n : ℕ) (q : Bool) (p k : ℕ) → ((cond param q (not q)) && (p == place)) ≡ b → b ≡ false → allows param place n (Child q p k) ≡ true
-unsplit-if true param place n q p k is e = absurd (true≢false e)
-unsplit-if false param place n q p k is e = rw is refl
-
-step-allows : (s : Step) (param : Bool) (place n : ℕ) → splits param place s ≡ false → allows param place n s ≡ true
-step-allows (Child q p k) param place n e = unsplit-if ((cond param q (not q)) && (p == place)) param place n q p k refl e
-step-allows (Below p at) param place n e = refl
-step-allows (From p at) param place n e = refl
-
-unsplit-allows : (path : List Step) (param : Bool) (place n : ℕ) → list_any (splits param place) path ≡ false → list_all (allows param place n) path ≡ true
-unsplit-allows [] param place n e = refl
-unsplit-allows (s ∷ path) param place n e =
-    and_from (allows param place n s) (list_all (allows param place n) path) (step-allows s param place n (or-left-false (splits param place s) (list_any (splits param place) path) e)) (unsplit-allows path param place n (or-right-false (splits param place s) (list_any (splits param place) path) e))
-
-kept-unsplit : {X : Type 0} (path : List Step) (param : Bool) (place n : ℕ) (xs : List X) → list_any (splits param place) path ≡ false → kept path param place n xs ≡ xs
-kept-unsplit path param place n [] e = refl
-kept-unsplit path param place n (x ∷ xs) e = rw (unsplit-allows path param place n e) (ap (λ ys. x ∷ ys) (kept-unsplit path param place (n + 1) xs e))
-
-not-true : (b : Bool) → not b ≡ true → b ≡ false
-not-true true e = sym e
-not-true false e = refl
-
-values-unsplit : (path : List Step) (place : ℕ) (d : Domain) → is_unsplit path true place ≡ true → length (param_cells path place d) ≡ values_left path place d
-values-unsplit path place Flags e = ap length (kept-unsplit path true place 0 (values_of Flags) (not-true (list_any (splits true place) path) e))
-values-unsplit path place (Numbers ns) e = ap length (kept-unsplit path true place 0 (values_of (Numbers ns)) (not-true (list_any (splits true place) path) e))
-values-unsplit path place (Range low high) e = length-map (numbers_of (range_left path place low high)) Number
-values-unsplit path place (Words ws) e = ap length (kept-unsplit path true place 0 (values_of (Words ws)) (not-true (list_any (splits true place) path) e))
-
-choices-unsplit : (path : List Step) (place : ℕ) (e : ExtSpace) → is_unsplit path false place ≡ true → length (ext_cells path place e) ≡ length (choices_of e)
-choices-unsplit path place e h = ap length (kept-unsplit path false place 0 (choices_of e) (not-true (list_any (splits false place) path) h))
+children-left : (path : List Step) (place : ℕ) (d : Domain) → children_of path place d ≡ values_left path place d
+children-left path place Flags = refl
+children-left path place (Numbers ns) = refl
+children-left path place (Range low high) = refl
+children-left path place (Words ws) = refl
 
 same-count : {X : Type 0} (f g : X → ℕ) (n : ℕ) (o : Option X) → ((x : X) → f x ≡ g x) → option_map_or (λ m. m == n) (option_map f o) false ≡ option_map_or (λ x. g x == n) o false
 same-count f g n None h = refl
 same-count f g n (Some x) h = ap (λ m. m == n) (h x)
 
 pub params-left : (space : Space) (path : List Step) (place parts : ℕ) → is_unsplit path true place ≡ true → option_map_or (λ cells. cells == parts) (cells_left space path true place) false ≡ option_map_or (λ p. values_left path place p.domain == parts) (slice_get space.params place) false
-params-left space path place parts h = same-count (λ p. length (param_cells path place p.domain)) (λ p. values_left path place p.domain) parts (slice_get space.params place) (λ p. values-unsplit path place p.domain h)
+params-left space path place parts h = same-count (λ p. length (param_cells path place p.domain)) (λ p. values_left path place p.domain) parts (slice_get space.params place) (λ p. values-unsplit path place p.domain h ∙ children-left path place p.domain)
 
 pub exts-left : (space : Space) (path : List Step) (place parts : ℕ) → is_unsplit path false place ≡ true → option_map_or (λ cells. cells == parts) (cells_left space path false place) false ≡ option_map_or (λ e. length (choices_of e) == parts) (slice_get space.extensions place) false
 exts-left space path place parts h = same-count (λ e. length (ext_cells path place e)) (λ e. length (choices_of e)) parts (slice_get space.extensions place) (λ e. choices-unsplit path place e h)

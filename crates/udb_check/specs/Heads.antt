@@ -27,11 +27,6 @@ abbrev pub IsHeadOf : Space → List ℕ → Option Head → Type 0
 IsHeadOf space line (Some head) = (head_text space head ≡ line) × IsTrue (is_head space head)
 IsHeadOf space line None = (head : Head) → IsTrue (is_head space head) → head_text space head ≡ line → ⊥
 
--- the number of 64 bits that a text is, without leading zeros
-abbrev pub IsNumberOf : List ℕ → Option ℕ → Type 0
-IsNumberOf text (Some n) = (decimal n ≡ text) × (n < 2 ^ 64)
-IsNumberOf text None = (n : ℕ) → n < 2 ^ 64 → decimal n ≡ text → ⊥
-
 -- the number after a name and a space
 abbrev pub IsNumberAfter : List ℕ → List ℕ → Option ℕ → Type 0
 IsNumberAfter name text (Some n) = (name ++ (32 ∷ decimal n) ≡ text) × (n < 2 ^ 64)

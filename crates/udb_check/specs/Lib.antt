@@ -1,4 +1,3 @@
 pub mod Nodes
-pub mod Fronts
 pub mod Heads
 pub mod Reading

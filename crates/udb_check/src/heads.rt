@@ -1,14 +1,12 @@
 //! The heads of proofs, read line by line.
 
 ghost use Rattle.std.specs.Prelude.{◌≡◌, IfOk};
-ghost use Rattle.std.specs.Option.{option_copied};
 ghost use Rattle.udb_spec.specs.ProofText.{HasShortPlaces};
-ghost use Rattle.udb_check.specs.Fronts.{after};
-ghost use Rattle.udb_check.specs.Heads.{IsHeadOf, IsNumberOf, IsNumberAfter, IsNamedBy, IsLeafAfter, IsSplitAfter, IsCutAfter, places, arity};
+ghost use Rattle.udb_check.specs.Heads.{IsHeadOf, IsNumberAfter, IsNamedBy, IsLeafAfter, IsSplitAfter, IsCutAfter, places, arity};
 
 use crate::printing::name_at;
 use std::alloc::Global;
-use udb_base::NoMemory;
+use udb_base::{NoMemory, number_of_text, strip_prefix};
 use udb_cond::Space;
 
 /// A node of a proof without its children.
@@ -36,44 +34,15 @@ impl Head {
     }
 }
 
-// What follows a front, where the text has it.
-fn after<'a>(text: &'a [u8], front: &[u8]) -> Option<&'a [u8]>
-    ensures { option_copied result ≡ after front.now text.now }
-{
-    if text.starts_with(front) {
-        Some(text.split_at(front.len()).1)
-    } else {
-        None
-    }
-}
-
-// A decimal number of 64 bits, without leading zeros.
-fn number(alloc: Global, text: &[u8]) -> Result<Option<u64>, NoMemory>
-    ensures { IfOk result (IsNumberOf text.now) }
-{
-    let Ok(digits) = std::str::from_utf8(text) else {
-        return Ok(None);
-    };
-    let Ok(number) = digits.parse::<u64>() else {
-        return Ok(None);
-    };
-    let printed = format!(in alloc; "{number}")?;
-    if printed.as_str() == digits {
-        Ok(Some(number))
-    } else {
-        Ok(None)
-    }
-}
-
 // A number after a name and a space.
 fn number_after(alloc: Global, text: &[u8], name: &[u8]) -> Result<Option<u64>, NoMemory>
     ensures { IfOk result (IsNumberAfter name.now text.now) }
 {
-    let Some(rest) = after(text, name) else {
+    let Some(rest) = strip_prefix(text, name) else {
         return Ok(None);
     };
-    match after(rest, b" ") {
-        Some(digits) => number(alloc, digits),
+    match strip_prefix(rest, b" ") {
+        Some(digits) => number_of_text(alloc, digits),
         None => Ok(None),
     }
 }
@@ -111,7 +80,7 @@ fn named(
 fn leaf(alloc: Global, text: &[u8]) -> Result<Option<Head>, NoMemory>
     ensures { IfOk result (IsLeafAfter text.now) }
 {
-    let Some(number) = number(alloc, text)? else {
+    let Some(number) = number_of_text(alloc, text)? else {
         return Ok(None);
     };
     if number > u64::from(u32::MAX) {
@@ -154,16 +123,16 @@ pub(crate) fn read_head(alloc: Global, space: &Space, line: &[u8]) -> Result<Opt
     requires { HasShortPlaces space.now }
     ensures { IfOk result (IsHeadOf space.now line.now) }
 {
-    if let Some(text) = after(line, b"leaf ") {
+    if let Some(text) = strip_prefix(line, b"leaf ") {
         return leaf(alloc, text);
     }
-    if let Some(text) = after(line, b"split extension ") {
+    if let Some(text) = strip_prefix(line, b"split extension ") {
         return split(alloc, space, false, text);
     }
-    if let Some(text) = after(line, b"split parameter ") {
+    if let Some(text) = strip_prefix(line, b"split parameter ") {
         return split(alloc, space, true, text);
     }
-    match after(line, b"cut parameter ") {
+    match strip_prefix(line, b"cut parameter ") {
         Some(text) => cut(alloc, space, text),
         None => Ok(None),
     }

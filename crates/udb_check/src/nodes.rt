@@ -11,8 +11,10 @@ ghost use Rattle.udb_spec.specs.Refutes.{is_leaf, is_split, is_cut};
 ghost use Rattle.udb_cond.specs.Steps.{steps_of};
 ghost use Rattle.udb_check.specs.Nodes.{some_open, first_value_fails, values_left};
 
-use crate::cells::{is_open, is_unsplit, later_is_open, range_left};
-use udb_cond::{Cells, Cond, Domain, ExtSpace, Known, ParamSpace, Partial, Space, holds3};
+use crate::cells::{is_unsplit, later_is_open};
+use udb_cond::{
+    Cells, Cond, Domain, ExtSpace, Known, ParamSpace, Partial, Space, holds3, is_open, range_left,
+};
 
 fn is_no(known: Known) -> bool
     ensures { result ≡ is_no known }

@@ -9,3 +9,5 @@ pub mod Completions
 pub mod RequirementLemmas
 pub mod PlaceLemmas
 pub mod Splits
+pub mod Unsplit
+pub mod Sound

@@ -34,7 +34,7 @@ pub enum Cells<'a> {
 }
 
 /// Whether a choice of a variable, counted from 0, is still open.
-pub(crate) fn is_open(cells: &Cells, param: bool, place: usize, choice: usize) -> bool
+pub fn is_open(cells: &Cells, param: bool, place: usize, choice: usize) -> bool
     ensures { result ≡ list_all (allows param place choice) (steps_of cells.now) }
 {
     match cells {
@@ -72,7 +72,7 @@ fn child_of(low: u64, high: u64, child: u64) -> Option<(u64, u64)>
 }
 
 /// The low and the high end of the numbers that are left of a range, where there are any.
-pub(crate) fn range_left(cells: &Cells, place: usize, low: u64, high: u64) -> Option<(u64, u64)>
+pub fn range_left(cells: &Cells, place: usize, low: u64, high: u64) -> Option<(u64, u64)>
     ensures value { result ≡ range_left (steps_of cells.now) place low high }
     ensures ordered { IfSome result (λ ends. ends.0 ≤ ends.1) }
 {

@@ -12,11 +12,12 @@ mod ranges;
 mod truth;
 mod versions;
 
-pub use cells::Cells;
+pub use cells::{Cells, is_open, range_left};
 pub use constraints::constraint;
 pub use grammar::{BadRequirement, BadVersion, parse_requirement, parse_version};
 pub use lookups::{extension_place, mxlen, number_or, param_place, value_of};
-pub use partial_truth::holds3;
+pub use partial_truth::{holds3, one_by};
+pub use ranges::not_known;
 pub use truth::holds;
 pub use udb_base::{
     Choices, Compare, Cond, Conds, Domain, ExtSpace, ExtSpaces, Full, Known, Listed,

@@ -181,8 +181,8 @@ fn any_known(space: &Space, conds: &[Cond], cells: &Cells) -> Known
     if undecided { Known::Unknown } else { Known::No }
 }
 
-// What is known of One by how many parts are Yes and whether one is Unknown.
-fn one_by(holding: usize, undecided: bool) -> Known
+/// What is known of One by how many parts are Yes and whether one is Unknown.
+pub fn one_by(holding: usize, undecided: bool) -> Known
     ensures { result ≡ one_by holding undecided }
 {
     if holding >= 2 || (holding == 0 && !undecided) {

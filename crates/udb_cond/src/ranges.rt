@@ -10,7 +10,8 @@ ghost use Rattle.udb_cond.specs.Tests.{equality_over_range};
 use crate::atoms::equality;
 use udb_base::{Known, Test, Value};
 
-pub(crate) fn not_known(known: Known) -> Known
+/// What is known of a condition's contrary.
+pub fn not_known(known: Known) -> Known
     ensures { result ≡ not_known known }
 {
     match known {

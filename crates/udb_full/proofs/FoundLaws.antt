@@ -1,11 +1,9 @@
 -- What is found of one kind is found of another.
-use Rattle.std.proofs.Common.{◌≡◌, ◌<◌, ◌^◌, ℕ, zero, suc, List, [], ◌∷◌, ◌++◌, length, get_or, Option, None, Some, Result, Ok, refl, sym, ap, subst, ◌∙◌, arith}
+use Rattle.std.proofs.Common.{◌≡◌, ◌<◌, ◌^◌, ℕ, zero, suc, List, [], ◌∷◌, ◌++◌, length, get_or, Option, None, Some, refl, sym, ap, ◌∙◌, arith}
 use Rattle.std.specs.Fmt.{decimal}
-use Rattle.std.specs.Str.{IsUtf8}
-use Rattle.std.specs.Str.Parse.{ParsesUnsigned}
 use Rattle.std.proofs.lemmas.Option.{same_Some}
-use Rattle.std.proofs.lemmas.Fmt.{parse-decimal, decimal_injective, IsAscii-decimal}
-use Rattle.std.proofs.lemmas.Str.{IsUtf8-from_ascii}
+use Rattle.std.proofs.lemmas.Fmt.{decimal_injective}
+use Rattle.udb_base.specs.Fronts.{IsNumberOf}
 use Rattle.udb_full.specs.Found.{IsFound, IsShort, IsNamed}
 
 pub none-found : {X : Type 0} (Of : X → Type 0) (spelling : X → List ℕ) (text : List ℕ) → ((x : X) → Of x → spelling x ≡ text → ⊥) → IsFound Of spelling text None
@@ -30,17 +28,9 @@ get-any (x ∷ xs) (suc i) d e lt = get-any xs i d e (omega arith)
 
 -- ---- a number from its text
 
-pub no-utf8 : (text : List ℕ) → (IsUtf8 text → ⊥) → IsFound IsShort decimal text None
-no-utf8 text bad = none-found IsShort decimal text (λ n small is. bad (subst IsUtf8 is (IsUtf8-from_ascii (decimal n) (IsAscii-decimal n small))))
-
-pub no-parse : {E : Type 0} (text digits : List ℕ) (r : Result ℕ E) → digits ≡ text → ParsesUnsigned 64 10 digits r → ((n : ℕ) → r ≡ Ok n → ⊥) → IsFound IsShort decimal text None
-no-parse text digits r same parses none = none-found IsShort decimal text (λ n small is. none n (parse-decimal 64 n digits r small small (same ∙ sym is) parses))
-
-pub other-text : {E : Type 0} (text digits : List ℕ) (r : Result ℕ E) (m : ℕ) → digits ≡ text → ParsesUnsigned 64 10 digits r → r ≡ Ok m → (decimal m ≡ text → ⊥) → IsFound IsShort decimal text None
-other-text text digits r m same parses is_m other = none-found IsShort decimal text (λ n small is.
-    let both : r ≡ Ok n = parse-decimal 64 n digits r small small (same ∙ sym is) parses in
-    let one : m ≡ n = cc in
-    other (ap decimal one ∙ is))
-
-pub number-found : (text : List ℕ) (n : ℕ) → n < 2 ^ 64 → decimal n ≡ text → IsFound IsShort decimal text (Some n)
+number-found : (text : List ℕ) (n : ℕ) → n < 2 ^ 64 → decimal n ≡ text → IsFound IsShort decimal text (Some n)
 number-found text n small is = one-found IsShort decimal text n small is (λ m short e. decimal_injective n m small short (is ∙ sym e))
+
+pub found_number : (text : List ℕ) (o : Option ℕ) → IsNumberOf text o → IsFound IsShort decimal text o
+found_number text (Some n) h = number-found text n h.1 h.0
+found_number text None h = none-found IsShort decimal text h

@@ -1,31 +1,19 @@
 //! The choices and values that lines are.
 
-ghost use Rattle.std.specs.Prelude.{◌≡◌, IfOk};
+ghost use Rattle.std.specs.Prelude.{IfOk};
 ghost use Rattle.std.specs.Option.{option_copied};
-ghost use Rattle.udb_full.specs.Fronts.{after};
 ghost use Rattle.udb_full.specs.Found.{IsNamed, IsChoiceFound, IsValueFound};
 
 use crate::values::{value_of_text, version_of_text};
 use std::alloc::Global;
-use udb_base::{ExtSpace, NoMemory, ParamSpace, Value, Version};
-
-// What follows a front, where the text has it.
-fn after<'a>(text: &'a [u8], front: &[u8]) -> Option<&'a [u8]>
-    ensures { option_copied result ≡ after front.now text.now }
-{
-    if text.starts_with(front) {
-        Some(text.split_at(front.len()).1)
-    } else {
-        None
-    }
-}
+use udb_base::{ExtSpace, NoMemory, ParamSpace, Value, Version, strip_prefix};
 
 // What follows a name and a space.
 fn after_name<'a>(line: &'a [u8], name: &[u8]) -> Option<&'a [u8]>
     ensures { IsNamed name.now line.now (option_copied result) }
 {
-    match after(line, name) {
-        Some(rest) => after(rest, b" "),
+    match strip_prefix(line, name) {
+        Some(rest) => strip_prefix(rest, b" "),
         None => None,
     }
 }

@@ -9,7 +9,7 @@ ghost use Rattle.udb_full.specs.Found.{IsFound, IsShort};
 
 use crate::printing::{json_text, text_of_version};
 use std::alloc::Global;
-use udb_base::{Chars, Copied, Domain, Listed, NoMemory, Value, Version};
+use udb_base::{Chars, Copied, Domain, Listed, NoMemory, Value, Version, number_of_text};
 
 /// The listed version that a text is.
 pub(crate) fn version_of_text(
@@ -29,22 +29,12 @@ pub(crate) fn version_of_text(
     Ok(found)
 }
 
-// A decimal number of 64 bits, without leading zeros.
-fn number_of_text(alloc: Global, text: &[u8]) -> Result<Option<u64>, NoMemory>
+// The number of 64 bits that a text is, which no other number has.
+#[tactic(auto, using(crate::proofs::FoundLaws::found_number))]
+fn number_found(alloc: Global, text: &[u8]) -> Result<Option<u64>, NoMemory>
     ensures { IfOk result (IsFound IsShort decimal text.now) }
 {
-    let Ok(digits) = std::str::from_utf8(text) else {
-        return Ok(None);
-    };
-    let Ok(number) = digits.parse::<u64>() else {
-        return Ok(None);
-    };
-    let printed = format!(in alloc; "{number}")?;
-    if printed.as_str() == digits {
-        Ok(Some(number))
-    } else {
-        Ok(None)
-    }
+    Ok(number_of_text(alloc, text)?)
 }
 
 // The listed word whose JSON text a text is.
@@ -76,7 +66,7 @@ fn flag_of_text(text: &[u8]) -> Option<Value>
 fn listed_number(alloc: Global, numbers: &[u64], text: &[u8]) -> Result<Option<Value>, NoMemory>
     ensures { IfOk result (IsFound (InDomain (Domain.Numbers numbers.now)) value_text text.now) }
 {
-    match number_of_text(alloc, text)? {
+    match number_found(alloc, text)? {
         Some(number) => {
             if numbers.contains(&number) {
                 Ok(Some(Value::Number(number)))
@@ -96,7 +86,7 @@ fn number_between(
 ) -> Result<Option<Value>, NoMemory>
     ensures { IfOk result (IsFound (InDomain (Domain.Range low high)) value_text text.now) }
 {
-    match number_of_text(alloc, text)? {
+    match number_found(alloc, text)? {
         Some(number) => {
             if low <= number && number <= high {
                 Ok(Some(Value::Number(number)))

@@ -1,11 +1,12 @@
 -- Lists that rise from each place to the next.
-use Rattle.std.proofs.Common.{◌≡◌, ◌⊎◌, inl, inr, ℕ, ◌+◌, ◌-◌, ◌<◌, ◌≤◌, true, List, length, get_or, arith, subst, refl, sym}
-use Rattle.std.specs.Prelude.{AllPairs}
+use Rattle.std.proofs.Common.{◌≡◌, ◌⊎◌, inl, inr, ℕ, ◌+◌, ◌-◌, ◌<◌, ◌≤◌, true, List, length, get_or, arith, subst, refl, sym, ◌∙◌, false}
+use Rattle.std.specs.Prelude.{AllPairs, IsTrue}
 use Rattle.std.specs.Ordering.{nat_cmp, is_lt}
 use Rattle.std.specs.declared.cmp.Ordering.{Ordering}
 use Rattle.std.specs.declared.cmp.Ordering.TheVariants.{Less, Equal, Greater}
 use Rattle.std.specs.Cmp.Lexicographic.{slice_cmp}
 use Rattle.std.proofs.lemmas.List.{get_or_read, get_or_default}
+use Rattle.std.proofs.lemmas.List.Elements.{pair_read}
 use Rattle.std.proofs.lemmas.Bool.{false≢true}
 use Rattle.std.proofs.lemmas.Bool.Decides.{nat_tests}
 use Rattle.std.proofs.lemmas.Cmp.{nat_list_cmp_total}
@@ -66,6 +67,23 @@ name-trans a b c x y = less-lt (slice_cmp nat_cmp a c) (nat_list_cmp_total.trans
 
 pub version-trans : (a b c : Version) → version_lt a b ≡ true → version_lt b c ≡ true → version_lt a c ≡ true
 version-trans a b c x y = grind (arith, nat_tests)
+
+-- ---- lists of things with names
+
+abbrev pub NamesRise : {X : Type 0} → (X → List ℕ) → X → X → Type 0
+NamesRise name a b = IsTrue (name_lt (name a) (name b))
+
+-- one more name rises
+pub names-more : {X : Type 0} (name : X → List ℕ) (xs : List X) (at : ℕ) (x y : X) → at < length xs → x ≡ get_or xs (at - 1) x → y ≡ get_or xs at y → Rising (NamesRise name) xs at → name_lt (name x) (name y) ≡ true → Rising (NamesRise name) xs (at + 1)
+names-more name xs at x y lt ix iy r below =
+    let one : 1 ≤ at = r.from_one in
+    rising-more (NamesRise name) (λ a b c. name-trans (name a) (name b) (name c)) xs at r (pair_read xs (NamesRise name) (at - 1) at x y (omega (arith, one)) lt ix iy below)
+
+-- a name that doesn't rise
+pub names-stop : {X : Type 0} (name : X → List ℕ) (xs : List X) (at : ℕ) (x y : X) → at < length xs → x ≡ get_or xs (at - 1) x → y ≡ get_or xs at y → Rising (NamesRise name) xs at → name_lt (name x) (name y) ≡ false → AllPairs (NamesRise name) xs → ⊥
+names-stop name xs at x y lt ix iy r above h =
+    let one : 1 ≤ at = r.from_one in
+    false≢true (sym above ∙ pair-of (NamesRise name) xs (at - 1) at x y (omega (arith, one)) lt ix iy h)
 
 -- a reading of two places with a default is one with any
 pub rises-at : (xs : List Listed) (i j : ℕ) (e : Listed) → i < length xs → j < length xs → version_lt (get_or xs i e).version (get_or xs j e).version ≡ true → (d : Listed) → version_lt (get_or xs i d).version (get_or xs j d).version ≡ true

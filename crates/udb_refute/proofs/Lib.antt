@@ -7,4 +7,3 @@ pub mod ChoiceLaws
 pub mod StepLaws
 pub mod SearchLaws
 pub mod StartLaws
-pub mod Sound

@@ -22,7 +22,7 @@ use Rattle.udb_spec.specs.Lawful.{Lawful, IsLawfulParam, IsLawfulDomain}
 use Rattle.udb_spec.specs.Cells.{choices_of, values_of, numbers_of, range_of, kept, param_cells, ExtsWithin, ParamsWithin}
 use Rattle.udb_spec.specs.Constraints.{constraints}
 use Rattle.udb_cond.proofs.Completions.{meets-completion}
-use Rattle.udb_refute.proofs.Sound.{none-meets}
+use Rattle.udb_cond.proofs.Sound.{none-meets}
 use Rattle.udb_refute.specs.declared.search.Found.{Found}
 use Rattle.udb_refute.specs.declared.search.Found.TheVariants.{Completion, Refuted}
 use Rattle.udb_refute.specs.Search.{IsOpen, own_count, space_count, HoldBefore, IsFound}

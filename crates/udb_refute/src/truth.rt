@@ -4,9 +4,8 @@ ghost use Rattle.std.specs.Prelude.{◌≡◌, false, List, [], map};
 ghost use Rattle.udb_base.specs.declared.versions.Requirement.{Requirement};
 ghost use Rattle.udb_base.specs.declared.conditions.Test.{Test};
 ghost use Rattle.udb_base.specs.declared.conditions.Value.{Value};
-ghost use Rattle.udb_spec.specs.Known.{known, all_known, any_known, one_known, not_known};
+ghost use Rattle.udb_spec.specs.Known.{known, all_known, any_known, one_known};
 ghost use Rattle.udb_cond.specs.Steps.{steps_of};
-ghost use Rattle.udb_cond.specs.Tally.{one_by};
 ghost use Rattle.udb_refute.specs.Boards.{IsBoard, split_path, below_path, path_of};
 ghost use Rattle.udb_refute.specs.Search.{IsOpen};
 ghost use Rattle.udb_refute.specs.Variables.{HasVariables};
@@ -14,7 +13,7 @@ ghost use Rattle.udb_refute.specs.Variables.{HasVariables};
 use crate::boards::{Board, Left};
 use crate::variables::Variables;
 use udb_base::Name;
-use udb_cond::{Cells, Cond, Known, Space, holds3};
+use udb_cond::{Cells, Cond, Known, Space, holds3, not_known, one_by};
 
 fn split_cells<'a>(param: bool, choice: Option<u32>, rest: &'a Cells<'a>) -> Cells<'a>
     ensures { steps_of result ≡ split_path param choice (steps_of rest.now) }
@@ -102,16 +101,6 @@ fn param_atom(
     }
 }
 
-fn not_truth(part: Known) -> Known
-    ensures { result ≡ not_known part }
-{
-    match part {
-        Known::Yes => Known::No,
-        Known::No => Known::Yes,
-        Known::Unknown => Known::Unknown,
-    }
-}
-
 #[cycle(truth)]
 fn all_truth(
     space: &Space,
@@ -162,19 +151,6 @@ fn any_truth(
         }
     }
     if undecided { Known::Unknown } else { Known::No }
-}
-
-// What is known of One by how many parts are Yes and whether one is Unknown.
-fn one_by(holding: usize, undecided: bool) -> Known
-    ensures { result ≡ one_by holding undecided }
-{
-    if holding >= 2 || (holding == 0 && !undecided) {
-        Known::No
-    } else if undecided {
-        Known::Unknown
-    } else {
-        Known::Yes
-    }
 }
 
 #[cycle(truth)]
@@ -228,6 +204,6 @@ pub(crate) fn truth(
         Cond::All(parts) => all_truth(space, cells, variables, board, parts.as_slice()),
         Cond::Any(parts) => any_truth(space, cells, variables, board, parts.as_slice()),
         Cond::One(parts) => one_truth(space, cells, variables, board, parts.as_slice()),
-        Cond::Not(part) => not_truth(truth(space, cells, variables, board, part.get())),
+        Cond::Not(part) => not_known(truth(space, cells, variables, board, part.get())),
     }
 }

@@ -1,5 +1,5 @@
 use Rattle.std.proofs.Common.{sym, ◌∙◌}
-use Rattle.udb_check.proofs.Sound.{none-meets}
+use Rattle.udb_cond.proofs.Sound.{none-meets}
 use Rattle.udb_check.proofs.checker.check.Goals as goal
 
 pub returns-clause-none : goal.returns-clause-none

@@ -1,6 +1,6 @@
 use Rattle.std.proofs.Common.{[], not, reverse, sym, ap, ◌∙◌}
 use Rattle.std.specs.Option.{option_map, is_some}
-use Rattle.udb_check.proofs.Sound.{flawless}
+use Rattle.udb_check.proofs.Flawless.{flawless}
 use Rattle.udb_check.proofs.checker.find_flaw.Goals as goal
 
 pub returns-in-None-clause-none : goal.returns-in-None-clause-none

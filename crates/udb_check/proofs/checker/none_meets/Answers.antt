@@ -1,4 +1,4 @@
-use Rattle.udb_check.proofs.Sound.{none-meets}
+use Rattle.udb_cond.proofs.Sound.{none-meets}
 use Rattle.udb_check.proofs.checker.none_meets.Goals as goal
 
 pub returns : goal.returns

@@ -1,5 +1,5 @@
 use Rattle.std.proofs.Common.{subst, arith}
-use Rattle.udb_check.specs.Heads.{IsNumberOf}
+use Rattle.udb_base.specs.Fronts.{IsNumberOf}
 use Rattle.udb_check.proofs.HeadLaws.{leaf-after}
 use Rattle.udb_check.proofs.heads.leaf.Goals as goal
 

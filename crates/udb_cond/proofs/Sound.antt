@@ -1,7 +1,7 @@
--- Where a proof refutes, no completion meets the condition; and a proof without a wrong node refutes.
-use Rattle.std.proofs.Common.{◌≡◌, ℕ, zero, suc, ◌+◌, ◌<◌, ◌==◌, nat_lt, nat_le, ◌^◌, ◌≤◌, Bool, true, false, not, ◌&&◌, List, [], ◌∷◌, map, length, Option, None, Some, IfSome, IsTrue, All, slice_get, refl, sym, ap, ◌∙◌, cond, subst, arith, ⊎_elim}
+-- Where a proof refutes, no completion meets the condition.
+use Rattle.std.proofs.Common.{◌≡◌, ℕ, zero, suc, ◌+◌, ◌<◌, ◌==◌, nat_lt, nat_le, ◌^◌, ◌≤◌, Bool, true, false, ◌&&◌, List, [], ◌∷◌, map, length, Option, None, Some, IfSome, IsTrue, All, slice_get, refl, sym, ◌∙◌, subst, arith, ⊎_elim}
 use Rattle.std.specs.List.{AllZip}
-use Rattle.std.specs.Option.{option_map_or, option_and_then, is_some}
+use Rattle.std.specs.Option.{option_map, option_map_or, option_and_then}
 use Rattle.std.proofs.lemmas.Bool.{eqb-true, cases_eq, false≢true, true≢false}
 use Rattle.std.proofs.lemmas.Option.{none-some}
 use Rattle.udb_base.specs.declared.versions.Version.{Version}
@@ -12,8 +12,6 @@ use Rattle.udb_base.specs.declared.refutations.Known.TheVariants.{Yes, No, Unkno
 use Rattle.udb_base.specs.declared.refutations.Partial.{Partial}
 use Rattle.udb_base.specs.declared.refutations.Proof.{Proof}
 use Rattle.udb_base.specs.declared.refutations.Proof.TheVariants as p
-use Rattle.udb_base.specs.declared.spaces.Domain.{Domain}
-use Rattle.udb_base.specs.declared.spaces.Domain.TheVariants.{Flags, Numbers, Range, Words}
 use Rattle.udb_base.specs.declared.spaces.ExtSpace.{ExtSpace}
 use Rattle.udb_base.specs.declared.spaces.ParamSpace.{ParamSpace}
 use Rattle.udb_base.specs.declared.spaces.Space.{Space}
@@ -23,15 +21,14 @@ use Rattle.udb_spec.specs.Conditions.{holds}
 use Rattle.udb_spec.specs.Spaces.{InDomain, IsChoice, IsValue, Valid, Completes}
 use Rattle.udb_spec.specs.Lawful.{Lawful}
 use Rattle.udb_spec.specs.Constraints.{constraints, numbered, IsInDomains}
-use Rattle.udb_spec.specs.Cells.{Step, Child, Below, From, choices_of, Within}
+use Rattle.udb_spec.specs.Cells.{Step, Child, Below, From, ext_cells, param_cells, Within}
 use Rattle.udb_spec.specs.Known.{is_no, known}
-use Rattle.udb_spec.specs.Refutes.{is_unsplit, cells_left, ends_of, is_leaf, is_split, is_cut, each_refutes, refutes_under, refutes, or_later, first_in_parts, first_wrong_under}
-use Rattle.udb_spec.specs.RefutesLaws.{refutes-Leaf, refutes-Split, refutes-Cut, wrong-Leaf, wrong-Split, wrong-Cut, EachProof, induct-Proof}
+use Rattle.udb_spec.specs.Refutes.{is_unsplit, cells_left, ends_of, is_split, is_cut, each_refutes, refutes_under, refutes}
+use Rattle.udb_spec.specs.RefutesLaws.{refutes-Leaf, refutes-Split, refutes-Cut, EachProof, induct-Proof}
 use Rattle.udb_cond.proofs.Agreement.{known-no}
 use Rattle.udb_cond.proofs.Completions.{at-number, completion-meets}
-use Rattle.udb_cond.proofs.Splits.{children_of, splits-ext, splits-param, cuts-param, within-all}
-use Rattle.udb_check.specs.Nodes.{values_left}
-use Rattle.udb_check.proofs.NodeLaws.{params-left, exts-left}
+use Rattle.udb_cond.proofs.Splits.{splits-ext, splits-param, cuts-param, within-all}
+use Rattle.udb_cond.proofs.Unsplit.{values-unsplit, choices-unsplit}
 
 is-no : (k : Known) → is_no k ≡ true → k ≡ No
 is-no Yes e = absurd (false≢true e)
@@ -46,16 +43,10 @@ both-right : (a b : Bool) → (a && b) ≡ true → b ≡ true
 both-right true b e = e
 both-right false b e = absurd (false≢true e)
 
-children-left : (path : List Step) (place : ℕ) (d : Domain) → children_of path place d ≡ values_left path place d
-children-left path place Flags = refl
-children-left path place (Numbers ns) = refl
-children-left path place (Range low high) = refl
-children-left path place (Words ws) = refl
-
--- the one that passes a test is there
-there : {X : Type 0} (f : X → Bool) (o : Option X) → option_map_or f o false ≡ true → (x : X) × (o ≡ Some x) × (f x ≡ true)
-there f None e = absurd (false≢true e)
-there f (Some x) e = (x, refl, e)
+-- the one that is counted is there
+there : {X : Type 0} (f : X → ℕ) (n : ℕ) (o : Option X) → option_map_or (λ m. m == n) (option_map f o) false ≡ true → (x : X) × (o ≡ Some x) × (f x ≡ n)
+there f n None e = absurd (false≢true e)
+there f n (Some x) e = (x, refl, eqb-true (f x) n e)
 
 module _ (space : Space) (part : Partial) (asked : Cond) (full : Full) (all : All (λ c. IsTrue (holds space full c)) (constraints space part asked)) where
   abbrev Refuted : Proof → Type 0
@@ -82,15 +73,15 @@ module _ (space : Space) (part : Partial) (asked : Cond) (full : Full) (all : Al
   within-part true place parts path e w =
       let unsplit = both-left (is_unsplit path true place) _ e in
       let counted = both-left (option_map_or (λ cells. cells == parts) (cells_left space path true place) false) (nat_lt parts (2 ^ 32)) (both-right (is_unsplit path true place) _ e) in
-      let at = there (λ q. values_left path place q.domain == parts) (slice_get space.params place) (sym (params-left space path place parts unsplit) ∙ counted) in
+      let at = there (λ q. length (param_cells path place q.domain)) parts (slice_get space.params place) counted in
       let split = splits-param space path full place at.0 at.1 w in
-      (split.0, omega (arith, split.1, children-left path place at.0.domain, eqb-true (values_left path place at.0.domain) parts at.2), split.2)
+      (split.0, omega (arith, split.1, values-unsplit path place at.0.domain unsplit, at.2), split.2)
   within-part false place parts path e w =
       let unsplit = both-left (is_unsplit path false place) _ e in
       let counted = both-left (option_map_or (λ cells. cells == parts) (cells_left space path false place) false) (nat_lt parts (2 ^ 32)) (both-right (is_unsplit path false place) _ e) in
-      let at = there (λ x. length (choices_of x) == parts) (slice_get space.extensions place) (sym (exts-left space path place parts unsplit) ∙ counted) in
+      let at = there (λ x. length (ext_cells path place x)) parts (slice_get space.extensions place) counted in
       let split = splits-ext space path full place at.0 at.1 w in
-      (split.0, omega (arith, split.1, eqb-true (length (choices_of at.0)) parts at.2), split.2)
+      (split.0, omega (arith, split.1, choices-unsplit path place at.0 unsplit, at.2), split.2)
 
   split-sound : (param : Bool) (place : ℕ) (parts : List Proof) → EachProof Refuted parts → Refuted (p.Split param place parts)
   split-sound param place parts each path e w =
@@ -144,58 +135,3 @@ none-meets space part asked proof lawful right full done = by_truth (holds space
   by_truth : (b : Bool) → holds space full asked ≡ b → b ≡ false
   by_truth false e = refl
   by_truth true e = absurd (sound space part asked full (completion-meets space full part asked lawful done e) proof [] right (within-all space full (valid-within space full done.valid)))
-
--- ---- a proof without a wrong node
-
-wrong-or : (number : ℕ) (o later : Option (List ℕ)) → not (is_some (or_later number o later)) ≡ (not (is_some o) && not (is_some later))
-wrong-or number None later = refl
-wrong-or number (Some node) later = refl
-
-wrong-if : (right : Bool) (o : Option (List ℕ)) → not (is_some (cond right o (Some []))) ≡ (right && not (is_some o))
-wrong-if true o = refl
-wrong-if false o = refl
-
-and-true : (b : Bool) → (b && true) ≡ b
-and-true true = refl
-and-true false = refl
-
-module _ (space : Space) (part : Partial) (asked : Cond) where
-  abbrev W : Proof → List Step → Option (List ℕ)
-  W = first_wrong_under space part asked
-
-  abbrev R : Proof → List Step → Bool
-  R = refutes_under space part asked
-
-  abbrev Flawless : Proof → Type 0
-  Flawless proof = (path : List Step) → not (is_some (first_wrong_under space part asked proof path)) ≡ refutes_under space part asked proof path
-
-  parts-flawless : (parts : List Proof) (param : Bool) (place n : ℕ) (path : List Step) → EachProof Flawless parts → not (is_some (first_in_parts (map W parts) param place n path)) ≡ each_refutes (map R parts) param place n path
-  parts-flawless [] param place n path each = refl
-  parts-flawless (x ∷ xs) param place n path each =
-      wrong-or (n + 1) (W x (Child param place n ∷ path)) (first_in_parts (map W xs) param place (n + 1) path)
-      ∙ ap (λ b. b && not (is_some (first_in_parts (map W xs) param place (n + 1) path))) (each.0 (Child param place n ∷ path))
-      ∙ ap (λ b. R x (Child param place n ∷ path) && b) (parts-flawless xs param place (n + 1) path each.1)
-
-  leaf-flawless : (number : ℕ) → Flawless (p.Leaf number)
-  leaf-flawless number path = ap (λ o. not (is_some o)) (wrong-Leaf space part asked number path) ∙ wrong-if (is_leaf space part asked path number) None ∙ and-true (is_leaf space part asked path number) ∙ sym (refutes-Leaf space part asked number path)
-
-  split-flawless : (param : Bool) (place : ℕ) (parts : List Proof) → EachProof Flawless parts → Flawless (p.Split param place parts)
-  split-flawless param place parts each path =
-      ap (λ o. not (is_some o)) (wrong-Split space part asked param place parts path)
-      ∙ wrong-if (is_split space path param place (length parts)) (first_in_parts (map W parts) param place 0 path)
-      ∙ ap (λ b. is_split space path param place (length parts) && b) (parts-flawless parts param place 0 path each)
-      ∙ sym (refutes-Split space part asked param place parts path)
-
-  cut-flawless : (place at : ℕ) (below from : Proof) → Flawless below → Flawless from → Flawless (p.Cut place at below from)
-  cut-flawless place at below from low high path =
-      let low_wrong : Option (List ℕ) = W below (Below place at ∷ path) in
-      let high_wrong : Option (List ℕ) = W from (From place at ∷ path) in
-      ap (λ o. not (is_some o)) (wrong-Cut space part asked place at below from path)
-      ∙ wrong-if (is_cut space path place at) (or_later 1 low_wrong (or_later 2 high_wrong None))
-      ∙ ap (λ b. is_cut space path place at && b) (wrong-or 1 low_wrong (or_later 2 high_wrong None) ∙ ap (λ b. not (is_some low_wrong) && b) (wrong-or 2 high_wrong None ∙ and-true (not (is_some high_wrong))))
-      ∙ ap (λ b. is_cut space path place at && (b && not (is_some high_wrong))) (low (Below place at ∷ path))
-      ∙ ap (λ b. is_cut space path place at && (R below (Below place at ∷ path) && b)) (high (From place at ∷ path))
-      ∙ sym (refutes-Cut space part asked place at below from path)
-
-  pub flawless : (proof : Proof) → Flawless proof
-  flawless = induct-Proof Flawless (record { leaf = leaf-flawless; split = split-flawless; cut = cut-flawless })

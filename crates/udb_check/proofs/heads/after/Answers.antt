@@ -1,9 +1,0 @@
-use Rattle.std.proofs.Common.{Some, ap, ◌∙◌, sym}
-use Rattle.udb_check.proofs.HeadLaws.{after-starts, after-not}
-use Rattle.udb_check.proofs.heads.after.Goals as goal
-
-pub returns-then-starts_with : goal.returns-then-starts_with
-returns-then-starts_with c = ap Some c.split_at.ensures.back ∙ after-starts c.args.front.now c.args.text.now (sym c.starts_with.ensures.value ∙ c.if-starts_with.true)
-
-pub returns-else-starts_with : goal.returns-else-starts_with
-returns-else-starts_with c = after-not c.args.front.now c.args.text.now (sym c.starts_with.ensures.value ∙ c.if-starts_with.false)
