@@ -168,7 +168,8 @@ fn push_block(
     all: &[Stmt],
     last: &str,
 ) -> Result<(), NoMemory>
-    ensures { OnOk result (out.new ≡ out.old ++ margined margin.now (block_lines all.now last.now)) }
+    ensures { OnOk result
+        (out.new ≡ out.old ++ margined margin.now (block_lines all.now last.now)) }
 {
     let mut inner = Chars::of(alloc, margin)?;
     inner.push_str("  ")?;

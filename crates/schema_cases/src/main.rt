@@ -6,27 +6,36 @@
 //! `items` with lists of at most one item.
 #![tactic(auto)]
 
+use case_text::text_of;
 use std::alloc::{AllocError, Global};
 use std::io;
 use udb_base::{Many, both};
-use udb_schema::{Schema, SchemaFault, SchemaTextFault, SchemaWord, SchemaWords};
+use udb_schema::{Schema, SchemaFault, SchemaTextFault, SchemaWord, SchemaWords, Word};
 use udb_yaml::{Tree, YamlFault, read_tree};
 
-/// The text that a line stands for.
-fn text_of(alloc: Global, line: &str) -> Result<String, AllocError> {
-    let mut text = String::new(alloc);
-    let mut escaped = false;
-    for letter in line.chars() {
-        if escaped {
-            text.push(if letter == 'n' { '\n' } else { letter })?;
-            escaped = false;
-        } else if letter == '\\' {
-            escaped = true;
-        } else {
-            text.push(letter)?;
-        }
+/// A word as schemas spell it.
+fn word_name(word: Word) -> &'static str {
+    match word {
+        Word::Type => "type",
+        Word::Enum => "enum",
+        Word::Const => "const",
+        Word::Minimum => "minimum",
+        Word::Maximum => "maximum",
+        Word::MinLength => "minLength",
+        Word::MinItems => "minItems",
+        Word::MaxItems => "maxItems",
+        Word::UniqueItems => "uniqueItems",
+        Word::MinProperties => "minProperties",
+        Word::MaxProperties => "maxProperties",
+        Word::Required => "required",
+        Word::AdditionalProperties => "additionalProperties",
+        Word::Properties => "properties",
+        Word::Items => "items",
+        Word::AllOf => "allOf",
+        Word::AnyOf => "anyOf",
+        Word::OneOf => "oneOf",
+        Word::Not => "not",
     }
-    Ok(text)
 }
 
 fn fault_text(alloc: Global, fault: SchemaFault) -> Result<String, AllocError> {
@@ -34,7 +43,7 @@ fn fault_text(alloc: Global, fault: SchemaFault) -> Result<String, AllocError> {
         SchemaFault::Memory => "no memory".to_string(alloc),
         SchemaFault::At { path, word } => {
             let path = path.as_str();
-            format!(in alloc; "{path:?} {word:?}")
+            format!(in alloc; "{path:?} {}", word_name(word))
         }
     }
 }

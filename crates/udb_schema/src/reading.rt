@@ -23,7 +23,7 @@ use udb_base::{Chars, Many, NoMemory, are_distinct, both};
 use yaml_spec::{Pair, Pairs, Tree, Trees};
 
 /// Why a text is no schema.
-#[derive(Debug, Drop)]
+#[derive(Drop)]
 pub enum SchemaTextFault {
     /// There was no memory.
     Memory,

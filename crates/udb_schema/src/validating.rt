@@ -16,7 +16,7 @@ use udb_base::{Chars, NoMemory};
 use yaml_spec::{Pair, Tree};
 
 /// Why a tree isn't taken.
-#[derive(Debug, Drop)]
+#[derive(Drop)]
 pub enum SchemaFault {
     /// There was no memory.
     Memory,

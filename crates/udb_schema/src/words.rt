@@ -4,7 +4,7 @@ use udb_base::{Chars, Many};
 use yaml_spec::{Tree, Trees};
 
 /// A schema: words that a tree has to meet, each of them. The empty list is met by every tree.
-#[derive(Debug, Drop)]
+#[derive(Drop)]
 #[cycle(schemas)]
 pub struct Schema {
     /// The words. Their order says nothing: a node's faults are named in the order of `Word`.
@@ -13,7 +13,7 @@ pub struct Schema {
 
 /// A word of a schema with its operand, as JSON Schema (2020-12, "A Vocabulary for Structural
 /// Validation" and "Applicator") has it. A word about another type than the node's is met.
-#[derive(Debug, Drop)]
+#[derive(Drop)]
 #[cycle(schemas)]
 pub enum SchemaWord {
     /// The node is of one of these types.
@@ -57,7 +57,7 @@ pub enum SchemaWord {
 }
 
 /// What holds of the entries of a map that are named nowhere.
-#[derive(Debug, Drop)]
+#[derive(Drop)]
 #[cycle(schemas)]
 pub enum Additional {
     /// There are none: `false`.
@@ -67,7 +67,7 @@ pub enum Additional {
 }
 
 /// A key of a map, and the schema of its value.
-#[derive(Debug, Drop)]
+#[derive(Drop)]
 #[cycle(schemas)]
 pub struct SchemaProperty {
     pub key: Chars,
@@ -90,7 +90,7 @@ pub type TypeNames = Many<TypeName>;
 pub type Names = Many<Chars>;
 
 /// The types of JSON Schema. Trees have no fractions, so each number is an integer.
-#[derive(Clone, Copy, Debug, PartialEq, Eq)]
+#[derive(Clone, Copy, PartialEq, Eq)]
 pub enum TypeName {
     Null,
     Boolean,
@@ -102,7 +102,7 @@ pub enum TypeName {
 }
 
 /// The words, in the order in which a node is examined.
-#[derive(Clone, Copy, Debug, PartialEq, Eq)]
+#[derive(Clone, Copy, PartialEq, Eq)]
 pub enum Word {
     Type,
     Enum,

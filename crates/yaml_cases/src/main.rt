@@ -10,35 +10,10 @@
 
 ghost use Rattle.yaml_spec.specs.Print.{IsWritable};
 
+use case_text::text_of;
 use std::alloc::{AllocError, Global};
 use std::io;
 use udb_yaml::{Mark, Pair, Tree, YamlFault, read_tree, write_tree};
-
-fn meant(letter: char) -> char {
-    match letter {
-        'n' => '\n',
-        'r' => '\r',
-        't' => '\t',
-        other => other,
-    }
-}
-
-/// The text that a line stands for.
-fn text_of(alloc: Global, line: &str) -> Result<String, AllocError> {
-    let mut text = String::new(alloc);
-    let mut escaped = false;
-    for letter in line.chars() {
-        if escaped {
-            text.push(meant(letter))?;
-            escaped = false;
-        } else if letter == '\\' {
-            escaped = true;
-        } else {
-            text.push(letter)?;
-        }
-    }
-    Ok(text)
-}
 
 fn push_quoted(alloc: Global, out: &mut String, text: &str) -> Result<(), AllocError> {
     let quoted = format!(in alloc; "{text:?}")?;
