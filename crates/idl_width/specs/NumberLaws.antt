@@ -38,3 +38,5 @@ module _ (space : Space) (full : Full) (scope : List BitsOf) where
   pub number-Bits : (csr : Option Name) (name : Name) → width_number space full scope (w.Bits csr name) ≡ clip (pos (bits_among (mxlen space full) scope csr name))
   unfolding width_number
   number-Bits = fold-Width-Bits ℤ (λ layer. clip (number_step space full scope layer))
+
+pub ruleset width_numbers = (number-Number, number-Word, number-Plus, number-Minus, number-Times, number-Max, number-Bits)

@@ -4,5 +4,5 @@
 mod numbers;
 mod scopes;
 
-pub use numbers::width_value;
-pub use scopes::{BitsOf, BitsScope};
+pub use numbers::{clip, difference, larger, product, sum, width_value};
+pub use scopes::{BitsOf, BitsScope, bits_among};

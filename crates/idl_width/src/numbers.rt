@@ -8,8 +8,9 @@ use idl_tree::Width;
 use udb_base::{Full, Space};
 use udb_cond::{mxlen, number_or};
 
+/// The number, or 1,000,000 where it is larger.
 #[tactic(auto, using(crate::proofs::Clipping::small_steps))]
-fn clip(number: u64) -> i64
+pub fn clip(number: u64) -> i64
     ensures value { result ≡ clip (pos number) }
     ensures small { IsClipped result }
 {
@@ -19,7 +20,8 @@ fn clip(number: u64) -> i64
     number as i64
 }
 
-fn sum(left: i64, right: i64) -> i64
+/// The clipped sum of two clipped numbers.
+pub fn sum(left: i64, right: i64) -> i64
     requires left { IsClipped left }
     requires right { IsClipped right }
     ensures value { result ≡ clip (left +ℤ right) }
@@ -28,7 +30,8 @@ fn sum(left: i64, right: i64) -> i64
     (left + right).clamp(-1_000_000, 1_000_000)
 }
 
-fn difference(left: i64, right: i64) -> i64
+/// The clipped difference of two clipped numbers.
+pub fn difference(left: i64, right: i64) -> i64
     requires left { IsClipped left }
     requires right { IsClipped right }
     ensures value { result ≡ clip (left -ℤ right) }
@@ -37,7 +40,8 @@ fn difference(left: i64, right: i64) -> i64
     (left - right).clamp(-1_000_000, 1_000_000)
 }
 
-fn product(left: i64, right: i64) -> i64
+/// The clipped product of two clipped numbers.
+pub fn product(left: i64, right: i64) -> i64
     requires left { IsClipped left }
     requires right { IsClipped right }
     ensures value { result ≡ clip (left *ℤ right) }
@@ -46,8 +50,9 @@ fn product(left: i64, right: i64) -> i64
     (left * right).clamp(-1_000_000, 1_000_000)
 }
 
+/// The larger of two clipped numbers.
 #[tactic(auto, unfolding(crate::specs::Numbers::larger))]
-fn larger(left: i64, right: i64) -> i64
+pub fn larger(left: i64, right: i64) -> i64
     ensures value { result ≡ clip (larger left right) }
     ensures small { IsClipped result }
 {

@@ -1,0 +1,6 @@
+mod ExprRows
+mod StateRows
+mod TypeRows
+mod BodyRows
+mod PlaceRows
+mod StepRows
