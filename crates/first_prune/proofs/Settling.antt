@@ -22,10 +22,10 @@ use Rattle.idl_tree.specs.declared.statements.Target.TheVariants as t
 use Rattle.idl_tree.specs.declared.statements.Stmt.{Stmt}
 use Rattle.idl_tree.specs.declared.statements.Stmt.TheVariants as s
 use Rattle.idl_spec.specs.Formulas.{Claims, claims, of_formula}
-use Rattle.idl_spec.specs.TestPlaces.{TestPlace, TestPlaces, place, test_places, expr_places, stmt_places, other_places, if_places}
-use Rattle.idl_spec.specs.TestPlaceLaws.{places-Number, places-Sized, places-Word, places-Unary, places-Binary, places-Register, places-Assign, places-Block, places-If}
-use Rattle.idl_spec.specs.Words.{words, expr_words, stmt_words, other_words}
-use Rattle.idl_spec.specs.WordLaws.{words-width-Number, words-Number, words-Sized, words-Word, words-Unary, words-Binary, words-Register, words-Assign, words-Block, words-If}
+use Rattle.idl_spec.specs.TestPlaces.{TestPlace, place, test_places, expr_places, stmt_places, other_places, if_places}
+use Rattle.idl_spec.specs.TestPlaceLaws.{places-Number, places-Sized, places-Word, places-Unary, places-Binary, places-Register, tests-Assign, tests-Block, tests-If}
+use Rattle.idl_spec.specs.Words.{words, expr_words, stmt_words}
+use Rattle.idl_spec.specs.WordLaws.{words-width-Number, words-Number, words-Sized, words-Word, words-Unary, words-Binary, words-Register, words-stmt-Assign, words-stmt-Block, words-stmt-If}
 use Rattle.entry_tree.specs.declared.ParamEntry.{ParamEntry}
 use Rattle.entry_tree.specs.declared.Given.{Given}
 use Rattle.first_spec.specs.Bundle.{IsValue, literal, register, plus_literal, plus_register, IsTest, switch, not_switch, IsParam, IsGiven, Rise, IsStatement, assign, block, when, either, AreStatements, none, more, is_switch_name}
@@ -38,22 +38,22 @@ use Rattle.first_prune.proofs.Asking.{turned, turned_back, Asks, asks}
 -- ---- values have no words and no places
 
 value_words : (x : Expr) → IsValue x → expr_words x ≡ []
-value_words _ (literal k l) = words-Sized (w.Number 32) false k ∙ words-width-Number 32
-value_words _ (register n l) = words-Register (e.Number n) ∙ words-Number n
+value_words _ (literal k l) = rw (words-Sized (w.Number 32) false k, words-width-Number 32) refl
+value_words _ (register n l) = rw (words-Register (e.Number n), words-Number n) refl
 value_words _ (plus_literal n k l m) = rw (words-Binary Add (e.Register (e.Number n)) (e.Sized (w.Number 32) false k), words-Register (e.Number n), words-Number n, words-Sized (w.Number 32) false k, words-width-Number 32) refl
 value_words _ (plus_register n m l k) = rw (words-Binary Add (e.Register (e.Number n)) (e.Register (e.Number m)), words-Register (e.Number n), words-Number n, words-Register (e.Number m), words-Number m) refl
 
 value_places : (space : Space) (x : Expr) → IsValue x → (context : List Cond) → expr_places space [] x context ≡ []
-value_places space _ (literal k l) context = ap (λ f. f context) (places-Sized space [] (w.Number 32) false k)
-value_places space _ (register n l) context = ap (λ f. f context) (places-Register space [] (e.Number n) ∙ places-Number space [] n)
-value_places space _ (plus_literal n k l m) context = rw (places-Binary space [] Add (e.Register (e.Number n)) (e.Sized (w.Number 32) false k), places-Register space [] (e.Number n), places-Number space [] n, places-Sized space [] (w.Number 32) false k) refl
-value_places space _ (plus_register n m l k) context = rw (places-Binary space [] Add (e.Register (e.Number n)) (e.Register (e.Number m)), places-Register space [] (e.Number n), places-Number space [] n, places-Register space [] (e.Number m), places-Number space [] m) refl
+value_places space _ (literal k l) context = rw (places-Sized space [] (w.Number 32) false k context) refl
+value_places space _ (register n l) context = rw (places-Register space [] (e.Number n) context, places-Number space [] n context) refl
+value_places space _ (plus_literal n k l m) context = rw (places-Binary space [] Add (e.Register (e.Number n)) (e.Sized (w.Number 32) false k) context, places-Register space [] (e.Number n) context, places-Number space [] n context, places-Sized space [] (w.Number 32) false k context) refl
+value_places space _ (plus_register n m l k) context = rw (places-Binary space [] Add (e.Register (e.Number n)) (e.Register (e.Number m)) context, places-Register space [] (e.Number n) context, places-Number space [] n context, places-Register space [] (e.Number m) context, places-Number space [] m context) refl
 
 assign_words : (n : ℕ) (x : Expr) → IsValue x → words (s.Assign (t.Register (e.Number n)) x ∷ []) ≡ []
-assign_words n x v = rw (words-Assign (t.Register (e.Number n)) x, words-Number n, value_words x v) refl
+assign_words n x v = rw (words-stmt-Assign (t.Register (e.Number n)) x, words-Number n, value_words x v) refl
 
 assign_places : (space : Space) (n : ℕ) (x : Expr) → IsValue x → (context : List Cond) → test_places space [] (s.Assign (t.Register (e.Number n)) x ∷ []) context ≡ []
-assign_places space n x v context = rw (places-Assign space [] (t.Register (e.Number n)) x, places-Number space [] n, value_places space x v context) refl
+assign_places space n x v context = rw (tests-Assign space [] (t.Register (e.Number n)) x context, places-Number space [] n context, value_places space x v context) refl
 
 -- ---- words and places of statements side by side
 
@@ -66,16 +66,31 @@ words-append [] b = refl
 words-append (x ∷ xs) b = ap (λ (ws : List (List ℕ)). stmt_words x ++ ws) (words-append xs b) ∙ sym (append_assoc (stmt_words x) (words xs) (words b))
 
 block_places : (space : Space) (xs : List Stmt) (context : List Cond) → test_places space [] (s.Block xs ∷ []) context ≡ test_places space [] xs context
-block_places space xs context = append-nil (stmt_places space [] (s.Block xs) context) ∙ ap (λ (p : TestPlaces). p context) (places-Block space [] xs)
+block_places space xs context =
+    append-nil (stmt_places space [] (s.Block xs) context)
+    ∙ (tests-Block space [] xs context ∙ append-nil (test_places space [] xs context))
 
 block_words : (xs : List Stmt) → words (s.Block xs ∷ []) ≡ words xs
-block_words xs = append-nil (stmt_words (s.Block xs)) ∙ words-Block xs
+block_words xs = append-nil (stmt_words (s.Block xs)) ∙ (words-stmt-Block xs ∙ append-nil (words xs))
 
 if_places_are : (space : Space) (test : Expr) (taken : List Stmt) (other : Option (List Stmt)) (context : List Cond) → test_places space [] (s.If test taken other ∷ []) context ≡ if_places space [] test (map (stmt_places space []) taken) (option_map (map (stmt_places space [])) other) context
-if_places_are space test taken other context = append-nil (stmt_places space [] (s.If test taken other) context) ∙ ap (λ (p : TestPlaces). p context) (places-If space [] test taken other)
+if_places_are space test taken other context = append-nil (stmt_places space [] (s.If test taken other) context) ∙ tests-If space [] test taken other context
 
-if_words_are : (test : Expr) (taken : List Stmt) (other : Option (List Stmt)) → words (s.If test taken other ∷ []) ≡ expr_words test ++ (words taken ++ other_words (option_map (map stmt_words) other))
-if_words_are test taken other = append-nil (stmt_words (s.If test taken other)) ∙ words-If test taken other
+-- the words of the other block
+abbrev other_words : Option (List Stmt) → List (List ℕ)
+other_words None = []
+other_words (Some xs) = words xs
+
+if_words_are : (test : Expr) (taken : List Stmt) (other : Option (List Stmt)) → words (s.If test taken other ∷ []) ≡ expr_words test ++ (words taken ++ other_words other)
+if_words_are test taken None =
+    append-nil (stmt_words (s.If test taken None))
+    ∙ (words-stmt-If test taken None
+    ∙ ap (λ (ws : List (List ℕ)). ws ++ (words taken ++ [])) (append-nil (expr_words test)))
+if_words_are test taken (Some other) =
+    append-nil (stmt_words (s.If test taken (Some other)))
+    ∙ (words-stmt-If test taken (Some other)
+    ∙ (ap (λ (ws : List (List ℕ)). ws ++ (words taken ++ (words other ++ []))) (append-nil (expr_words test))
+    ∙ ap (λ (ws : List (List ℕ)). expr_words test ++ (words taken ++ ws)) (append-nil (words other))))
 
 -- ---- settled statements in a context
 
@@ -149,7 +164,7 @@ abbrev SettlesAny : Space → Partial → List Cond → Option (List Stmt) → T
 SettlesAny space part context None = Unit {0}
 SettlesAny space part context (Some xs) = Settles space part context xs
 
-other_free : (space : Space) (part : Partial) (context : List Cond) (other : Option (List Stmt)) → SettlesAny space part context other → All (Free space part) (other_words (option_map (map stmt_words) other))
+other_free : (space : Space) (part : Partial) (context : List Cond) (other : Option (List Stmt)) → SettlesAny space part context other → All (Free space part) (other_words other)
 other_free space part context None h = All-nil (Free space part)
 other_free space part context (Some xs) h = h.named
 
@@ -168,8 +183,8 @@ settles_if space part context test taken other h k l =
     let rest : List TestPlace = other_places (option_map (map (stmt_places space [])) other) outer in
     record {
       named = subst (All (Free space part)) (sym (if_words_are test taken other))
-          (All-append (Free space part) (expr_words test) (words taken ++ other_words (option_map (map stmt_words) other)) h.free
-          (All-append (Free space part) (words taken) (other_words (option_map (map stmt_words) other)) k.named (other_free space part outer other l)));
+          (All-append (Free space part) (expr_words test) (words taken ++ other_words other) h.free
+          (All-append (Free space part) (words taken) (other_words other) k.named (other_free space part outer other l)));
       opened = subst (All (IsOpen space (Completes space part))) (sym (if_places_are space test taken other context))
           (All-append (IsOpen space (Completes space part)) (place context test ∷ expr_places space [] test context) (test_places space [] taken inner ++ rest) h.opens
           (All-append (IsOpen space (Completes space part)) (test_places space [] taken inner) rest k.opened (other_open space part outer other l)));
@@ -261,13 +276,13 @@ module _ (params : List ParamEntry) (is_params : All IsParam params) (givens : L
 
   one_open : (known : Known) (context : List Cond) → Fits known context → (test : Expr) → IsTest params test → known_truth known test ≡ None → IsOpen (space_with params) (Completes (space_with params) (part_with givens)) (place context test)
   one_open known context fits test is_test h =
-      let a : Asks params test = asks params test is_test in
+      let a : Asks params test = asks params is_params test is_test in
       open_place (space_with params) (part_with givens) context test a.formula a.claimed (test_world known context fits test a (unknown_name known test a h))
 
   settles_test : (known : Known) (context : List Cond) → Fits known context → (test : Expr) → IsTest params test → known_truth known test ≡ None → SettlesTest (space_with params) (part_with givens) context test
   settles_test known context fits _ (switch name h) l =
       let free : Free (space_with params) (part_with givens) name = free_name known context fits name h (sym (truth-Word known name) ∙ l) in
-      let none_inside : expr_places (space_with params) [] (e.Word name) context ≡ [] = ap (λ (p : TestPlaces). p context) (places-Word (space_with params) [] name) in
+      let none_inside : expr_places (space_with params) [] (e.Word name) context ≡ [] = places-Word (space_with params) [] name context in
       record {
         free = subst (All (Free (space_with params) (part_with givens))) (sym (words-Word name)) (All-cons (Free (space_with params) (part_with givens)) name [] free (All-nil (Free (space_with params) (part_with givens))));
         opens = All-cons (IsOpen (space_with params) (Completes (space_with params) (part_with givens))) (place context (e.Word name)) (expr_places (space_with params) [] (e.Word name) context)
@@ -283,10 +298,10 @@ module _ (params : List ParamEntry) (is_params : All IsParam params) (givens : L
       let unknown : look known name ≡ None = sym (truth-Word known name) ∙ word_unknown in
       let free : Free (space_with params) (part_with givens) name = free_name known context fits name h unknown in
       let inside : expr_places (space_with params) [] test context ≡ place context (e.Word name) ∷ [] =
-      ap (λ (p : TestPlaces). p context) (places-Unary (space_with params) [] u.Not (e.Word name))
-      ∙ ap (λ (ps : List TestPlace). place context (e.Word name) ∷ ps) (ap (λ (p : TestPlaces). p context) (places-Word (space_with params) [] name)) in
+      places-Unary (space_with params) [] u.Not (e.Word name) context
+      ∙ ap (λ (ps : List TestPlace). place context (e.Word name) ∷ ps) (places-Word (space_with params) [] name context) in
       record {
-        free = subst (All (Free (space_with params) (part_with givens))) (sym (words-Unary u.Not (e.Word name) ∙ words-Word name)) (All-cons (Free (space_with params) (part_with givens)) name [] free (All-nil (Free (space_with params) (part_with givens))));
+        free = subst (All (Free (space_with params) (part_with givens))) (sym (words-Unary u.Not (e.Word name) ∙ (append-nil (expr_words (e.Word name)) ∙ words-Word name))) (All-cons (Free (space_with params) (part_with givens)) name [] free (All-nil (Free (space_with params) (part_with givens))));
         opens = All-cons (IsOpen (space_with params) (Completes (space_with params) (part_with givens))) (place context test) (expr_places (space_with params) [] test context)
             (one_open known context fits test (not_switch name h) l)
             (subst (All (IsOpen (space_with params) (Completes (space_with params) (part_with givens)))) (sym inside)
@@ -313,13 +328,13 @@ module _ (params : List ParamEntry) (is_params : All IsParam params) (givens : L
 
   fits_true : (known : Known) (context : List Cond) → Fits known context → (test : Expr) → IsTest params test → known_truth known test ≡ None → Fits (known_after known test true) (context ++ (claims (space_with params) test).when_true ∷ [])
   fits_true known context fits test is_test h =
-      let a : Asks params test = asks params test is_test in
+      let a : Asks params test = asks params is_params test is_test in
       subst (λ (k : Claims). Fits (known_after known test true) (context ++ k.when_true ∷ [])) (sym a.claimed)
       (fits_after known context fits test a (unknown_name known test a h) true a.formula (λ full is. is))
 
   fits_false : (known : Known) (context : List Cond) → Fits known context → (test : Expr) → IsTest params test → known_truth known test ≡ None → Fits (known_after known test false) (context ++ (claims (space_with params) test).when_false ∷ [])
   fits_false known context fits test is_test h =
-      let a : Asks params test = asks params test is_test in
+      let a : Asks params test = asks params is_params test is_test in
       subst (λ (k : Claims). Fits (known_after known test false) (context ++ k.when_false ∷ [])) (sym a.claimed)
       (fits_after known context fits test a (unknown_name known test a h) false (c.Not a.formula) (λ full is. holds-Not (space_with params) full a.formula ∙ ap not is))
 

@@ -1,7 +1,7 @@
 -- What a body of the first path means: it always goes on, and so does what is shown of it, to the
 -- same state.
-use Rattle.std.proofs.Common.{◌≡◌, ◌++◌, ◌+◌, ◌%◌, ◌^◌, max, ℕ, suc, Bool, true, false, List, [], ◌∷◌, map, refl, ap, sym, ◌∙◌, subst, Option, None, Some}
-use Rattle.std.specs.Prelude.{All, ◌&&◌}
+use Rattle.std.proofs.Common.{◌≡◌, ◌++◌, ◌%◌, ◌^◌, ℕ, suc, Bool, true, false, List, [], ◌∷◌, map, refl, ap, sym, ◌∙◌, subst, Option, None, Some}
+use Rattle.std.specs.Prelude.{All, if◌then◌else◌}
 use Rattle.std.specs.Option.{option_map}
 use Rattle.udb_base.specs.declared.conditions.Value.TheVariants.{Flag}
 use Rattle.udb_base.specs.declared.spaces.Space.{Space}
@@ -15,37 +15,45 @@ use Rattle.idl_tree.specs.declared.expressions.Expr.TheVariants as e
 use Rattle.idl_tree.specs.declared.statements.Target.TheVariants as t
 use Rattle.idl_tree.specs.declared.statements.Stmt.{Stmt}
 use Rattle.idl_tree.specs.declared.statements.Stmt.TheVariants as s
-use Rattle.idl_spec.specs.Harts.{State, read_register, write_register}
-use Rattle.idl_spec.specs.Values.{bits, flag, fitted}
-use Rattle.idl_spec.specs.Mean.{Scope, Answer, value, Flow, goes_on, returns, throws, breaks, Change, mean_expr, mean_stmt, in_turn, flow_then, flow_with, branch, leaving}
-use Rattle.idl_spec.specs.MeanLaws.{mean-Number, mean-Sized, mean-Binary, mean-Register, mean-Assign, mean-Block, mean-If}
+use Rattle.idl_bits.specs.BitVector.{BitVector}
+use Rattle.idl_bits.specs.Number.{extension}
+use Rattle.idl_bits.specs.Operators.{sum_of}
+use Rattle.idl_width.specs.NumberLaws.{number-Number}
+use Rattle.idl_spec.specs.Harts.{State, Outcome, done, raised, stuck, and_then, read_register, write_register}
+use Rattle.idl_spec.specs.Values.{Value as Meant, bits, flag, plain}
+use Rattle.idl_spec.specs.Settings.{Scope, Flow, goes_on, returns, Change, with_flag}
+use Rattle.idl_spec.specs.Fields.{bits_scope}
+use Rattle.idl_spec.specs.Mean.{mean_expr, mean_stmt, in_turn, onward, block, other_block, leaving}
+use Rattle.idl_spec.specs.MeanLaws.{mean-Number, mean-Sized, mean-Binary, mean-Register, runs-Assign, runs-Block, runs-If}
 use Rattle.entry_tree.specs.declared.ParamEntry.{ParamEntry}
-use Rattle.first_spec.specs.Bundle.{IsValue, literal, register, plus_literal, plus_register, IsTest, IsParam, IsStatement, assign, block as bare, when, either, AreStatements, none, more, is_switch_name}
-use Rattle.first_prune.specs.Known.{Known, look}
+use Rattle.first_spec.specs.Bundle.{IsValue, literal, register, plus_literal, plus_register, IsTest, IsParam, IsStatement, assign, block as braces, when, either, AreStatements, none, more, is_switch_name}
+use Rattle.first_prune.specs.Known.{Known, look, no_program}
 use Rattle.first_prune.specs.Pruning.{prunes, pruned, pruned_one, pruned_if, known_truth, known_after, pruned-Assign, pruned-Block, pruned-If}
 use Rattle.first_prune.proofs.Worlds.{chosen_true, chosen_false, same_so, space_with, SwitchValue, switch_value, Agrees}
-use Rattle.first_prune.proofs.Asking.{turned, Asks, asks}
+use Rattle.first_prune.proofs.Asking.{setting_with, turned, Asks, asks}
 
 -- an expression that gives bits and leaves the state
 pub record Gives (space : Space) (full : Full) (x : Expr) (scope : Scope) (state : State) : Type 0 where
-  pub width : ℕ
-  pub signed : Bool
-  pub pattern : ℕ
-  pub gives : mean_expr space full x scope state ≡ value (bits width signed pattern) state
+  pub vector : BitVector
+  pub gives : mean_expr (setting_with space full) x scope state ≡ done (bits vector) state
 
 module _ (space : Space) (full : Full) (scope : Scope) (state : State) where
   literal_gives : (k : ℕ) → Gives space full (e.Sized (w.Number 32) false k) scope state
-  literal_gives k = record { width = 32; signed = false; pattern = k % 2 ^ 32; gives = ap (λ f. f scope state) (mean-Sized space full (w.Number 32) false k) }
+  literal_gives k = record {
+    vector = plain 32 (k % 2 ^ 32);
+    gives = rw (mean-Sized (setting_with space full) (w.Number 32) false k scope state, number-Number space full (bits_scope no_program []) 32) refl;
+  }
 
   register_gives : (n : ℕ) → Gives space full (e.Register (e.Number n)) scope state
-  register_gives n = record { width = mxlen space full; signed = false; pattern = read_register state.x n; gives = rw (mean-Register space full (e.Number n), mean-Number space full n) refl }
+  register_gives n = record {
+    vector = plain (mxlen space full) (read_register state.x n);
+    gives = rw (mean-Register (setting_with space full) (e.Number n) scope state, mean-Number (setting_with space full) n scope state) refl;
+  }
 
   sum_gives : (x y : Expr) → Gives space full x scope state → Gives space full y scope state → Gives space full (e.Binary Add x y) scope state
   sum_gives x y a b = record {
-    width = max a.width b.width;
-    signed = a.signed && b.signed;
-    pattern = (fitted (max a.width b.width) a.width a.signed a.pattern + fitted (max a.width b.width) b.width b.signed b.pattern) % 2 ^ max a.width b.width;
-    gives = rw (mean-Binary space full Add x y, a.gives, b.gives) refl;
+    vector = sum_of a.vector b.vector;
+    gives = rw (mean-Binary (setting_with space full) Add x y scope state, a.gives, b.gives) refl;
   }
 
   value_gives : (x : Expr) → IsValue x → Gives space full x scope state
@@ -55,34 +63,38 @@ module _ (space : Space) (full : Full) (scope : Scope) (state : State) where
   value_gives _ (plus_register n m l k) = sum_gives _ _ (register_gives n) (register_gives m)
 
 -- an assignment goes on with some state
-assignment_goes_on : (space : Space) (full : Full) (n : ℕ) (x : Expr) → IsValue x → (state : State) → (next : State) × (mean_stmt space full (s.Assign (t.Register (e.Number n)) x) [] state ≡ goes_on [] next)
+assignment_goes_on : (space : Space) (full : Full) (n : ℕ) (x : Expr) → IsValue x → (state : State) → (next : State) × (mean_stmt (setting_with space full) (s.Assign (t.Register (e.Number n)) x) [] state ≡ done (goes_on []) next)
 assignment_goes_on space full n x v state =
     let a : Gives space full x [] state = value_gives space full [] state x v in
-    (record state { x = write_register state.x n (fitted (mxlen space full) a.width a.signed a.pattern) }, rw (mean-Assign space full (t.Register (e.Number n)) x, mean-Number space full n, a.gives) refl)
+    (record state { x = write_register state.x n (extension (mxlen space full) a.vector) }, rw (runs-Assign (setting_with space full) (t.Register (e.Number n)) x [] state, mean-Number (setting_with space full) n [] state, a.gives) refl)
 
 -- ---- statements in turn
 
-joined : (f : Stmt → Change) (a b : List Stmt) (scope : Scope) (state : State) → in_turn (map f (a ++ b)) scope state ≡ flow_then (in_turn (map f a) scope state) (in_turn (map f b))
+joined : (f : Stmt → Change) (a b : List Stmt) (scope : Scope) (state : State) → in_turn (map f (a ++ b)) scope state ≡ and_then (in_turn (map f a) scope state) (onward (in_turn (map f b)))
 joined f [] b scope state = refl
 joined f (x ∷ xs) b scope state = at (f x scope state) (joined f xs b)
   where
-    at : (flow : Flow) → ((scope : Scope) (state : State) → in_turn (map f (xs ++ b)) scope state ≡ flow_then (in_turn (map f xs) scope state) (in_turn (map f b))) → flow_then flow (in_turn (map f (xs ++ b))) ≡ flow_then (flow_then flow (in_turn (map f xs))) (in_turn (map f b))
-    at (goes_on scope state) ih = ih scope state
-    at (returns v state) ih = refl
-    at (throws code tval state) ih = refl
-    at breaks ih = refl
+    at : (o : Outcome Flow) → ((scope : Scope) (state : State) → in_turn (map f (xs ++ b)) scope state ≡ and_then (in_turn (map f xs) scope state) (onward (in_turn (map f b)))) → and_then o (onward (in_turn (map f (xs ++ b)))) ≡ and_then (and_then o (onward (in_turn (map f xs)))) (onward (in_turn (map f b)))
+    at (done (goes_on scope) state) ih = ih scope state
+    at (done (returns v) state) ih = refl
+    at (raised code tval state) ih = refl
+    at stuck ih = refl
 
 -- both go on, to the same state
 pub record GoOn (space : Space) (full : Full) (whole shown : List Stmt) (state : State) : Type 0 where
   pub next : State
-  pub whole_goes : in_turn (map (mean_stmt space full) whole) [] state ≡ goes_on [] next
-  pub shown_goes : in_turn (map (mean_stmt space full) shown) [] state ≡ goes_on [] next
+  pub whole_goes : in_turn (map (mean_stmt (setting_with space full)) whole) [] state ≡ done (goes_on []) next
+  pub shown_goes : in_turn (map (mean_stmt (setting_with space full)) shown) [] state ≡ done (goes_on []) next
 
 module _ (space : Space) (full : Full) where
-  both_go : (a b : List Stmt) (state middle next : State) → in_turn (map (mean_stmt space full) a) [] state ≡ goes_on [] middle → in_turn (map (mean_stmt space full) b) [] middle ≡ goes_on [] next → in_turn (map (mean_stmt space full) (a ++ b)) [] state ≡ goes_on [] next
+  -- the meaning of one statement
+  abbrev one : Stmt → Change
+  one = mean_stmt (setting_with space full)
+
+  both_go : (a b : List Stmt) (state middle next : State) → in_turn (map one a) [] state ≡ done (goes_on []) middle → in_turn (map one b) [] middle ≡ done (goes_on []) next → in_turn (map one (a ++ b)) [] state ≡ done (goes_on []) next
   both_go a b state middle next h k =
-      joined (mean_stmt space full) a b [] state
-      ∙ (ap (λ (w : Flow). flow_then w (in_turn (map (mean_stmt space full) b))) h ∙ k)
+      joined one a b [] state
+      ∙ (ap (λ (o : Outcome Flow). and_then o (onward (in_turn (map one b)))) h ∙ k)
 
   append_goes : (a b : List Stmt) (shown others : List Stmt) (state : State) (first : GoOn space full a shown state) → GoOn space full b others first.next → GoOn space full (a ++ b) (shown ++ others) state
   append_goes a b shown others state first second = record {
@@ -91,31 +103,40 @@ module _ (space : Space) (full : Full) where
     shown_goes = both_go shown others state first.next second.next first.shown_goes second.shown_goes;
   }
 
-  one_goes : (x : Stmt) (state next : State) → mean_stmt space full x [] state ≡ goes_on [] next → in_turn (map (mean_stmt space full) (x ∷ [])) [] state ≡ goes_on [] next
-  one_goes x state next h = ap (λ (w : Flow). flow_then w (in_turn [])) h
+  one_goes : (x : Stmt) (state next : State) → one x [] state ≡ done (goes_on []) next → in_turn (map one (x ∷ [])) [] state ≡ done (goes_on []) next
+  one_goes x state next h = ap (λ (o : Outcome Flow). and_then o (onward (in_turn []))) h
 
-  block_goes : (xs : List Stmt) (state next : State) → in_turn (map (mean_stmt space full) xs) [] state ≡ goes_on [] next → in_turn (map (mean_stmt space full) (s.Block xs ∷ [])) [] state ≡ goes_on [] next
+  block_goes : (xs : List Stmt) (state next : State) → in_turn (map one xs) [] state ≡ done (goes_on []) next → in_turn (map one (s.Block xs ∷ [])) [] state ≡ done (goes_on []) next
   block_goes xs state next h =
       one_goes (s.Block xs) state next
-      (ap (λ (f : Change). f [] state) (mean-Block space full xs) ∙ ap (leaving 0) h)
+      (runs-Block (setting_with space full) xs [] state ∙ ap (λ (o : Outcome Flow). and_then o (leaving 0)) h)
 
   -- the block that a test chooses goes on
   abbrev Ran : Bool → List Stmt → Option (List Stmt) → State → State → Type 0
-  Ran true taken other state next = in_turn (map (mean_stmt space full) taken) [] state ≡ goes_on [] next
+  Ran true taken other state next = in_turn (map one taken) [] state ≡ done (goes_on []) next
   Ran false taken None state next = state ≡ next
-  Ran false taken (Some other) state next = in_turn (map (mean_stmt space full) other) [] state ≡ goes_on [] next
+  Ran false taken (Some other) state next = in_turn (map one other) [] state ≡ done (goes_on []) next
 
-  chosen_goes : (b : Bool) (taken : List Stmt) (other : Option (List Stmt)) (state next : State) → Ran b taken other state next → branch (flag b) state (map (mean_stmt space full) taken) (option_map (map (mean_stmt space full)) other) [] ≡ goes_on [] next
-  chosen_goes true taken other state next h = ap (leaving 0) h
-  chosen_goes false taken None state next h = ap (λ (r : State). goes_on [] r) h
-  chosen_goes false taken (Some other) state next h = ap (leaving 0) h
+  -- the block that a test takes
+  abbrev Chosen : Bool → List Stmt → Option (List Stmt) → Change
+  Chosen true taken other = block (map one taken)
+  Chosen false taken other = other_block (option_map (map one) other)
 
-  if_goes : (test : Expr) (b : Bool) (taken : List Stmt) (other : Option (List Stmt)) (state next : State) → mean_expr space full test [] state ≡ value (flag b) state → Ran b taken other state next → in_turn (map (mean_stmt space full) (s.If test taken other ∷ [])) [] state ≡ goes_on [] next
+  chosen_goes : (b : Bool) (taken : List Stmt) (other : Option (List Stmt)) (state next : State) → Ran b taken other state next → Chosen b taken other [] state ≡ done (goes_on []) next
+  chosen_goes true taken other state next h = ap (λ (o : Outcome Flow). and_then o (leaving 0)) h
+  chosen_goes false taken None state next h = ap (λ (r : State). done (goes_on []) r) h
+  chosen_goes false taken (Some other) state next h = ap (λ (o : Outcome Flow). and_then o (leaving 0)) h
+
+  branch : (b : Bool) (taken : List Stmt) (other : Option (List Stmt)) (state : State) → with_flag (done (flag b) state) (λ x r. if x then block (map one taken) [] r else other_block (option_map (map one) other) [] r) ≡ Chosen b taken other [] state
+  branch true taken other state = refl
+  branch false taken other state = refl
+
+  if_goes : (test : Expr) (b : Bool) (taken : List Stmt) (other : Option (List Stmt)) (state next : State) → mean_expr (setting_with space full) test [] state ≡ done (flag b) state → Ran b taken other state next → in_turn (map one (s.If test taken other ∷ [])) [] state ≡ done (goes_on []) next
   if_goes test b taken other state next m h =
       one_goes (s.If test taken other) state next
-      (ap (λ (f : Change). f [] state) (mean-If space full test taken other)
-      ∙ (ap (λ (a : Answer). flow_with a (λ v r. branch v r (map (mean_stmt space full) taken) (option_map (map (mean_stmt space full)) other) [])) m
-      ∙ chosen_goes b taken other state next h))
+      (runs-If (setting_with space full) test taken other [] state
+      ∙ (ap (λ (o : Outcome Meant). with_flag o (λ x r. if x then block (map one taken) [] r else other_block (option_map (map one) other) [] r)) m
+      ∙ (branch b taken other state ∙ chosen_goes b taken other state next h)))
 
 -- ---- bodies and what is shown of them
 
@@ -143,7 +164,7 @@ module _ (params : List ParamEntry) (is_params : All IsParam params) (full : Ful
   Shows x shown state = GoOn (space_with params) full (x ∷ []) shown state
 
   -- the test is decided
-  decided_goes : (test : Expr) (b : Bool) (taken : List Stmt) (other : Option (List Stmt)) (known : Known) (state : State) → mean_expr (space_with params) full test [] state ≡ value (flag b) state → Agrees params full known → GoesAll params full taken → GoesAny params full other → Shows (s.If test taken other) (pruned_if (Some b) known test (prunes taken) (option_map prunes other)) state
+  decided_goes : (test : Expr) (b : Bool) (taken : List Stmt) (other : Option (List Stmt)) (known : Known) (state : State) → mean_expr (setting_with (space_with params) full) test [] state ≡ done (flag b) state → Agrees params full known → GoesAll params full taken → GoesAny params full other → Shows (s.If test taken other) (pruned_if (Some b) known test (prunes taken) (option_map prunes other)) state
   decided_goes test true taken other known state m agree goes goes_other =
       let g : GoOn (space_with params) full taken (pruned known taken) state = goes known agree state in
       record {
@@ -162,7 +183,7 @@ module _ (params : List ParamEntry) (is_params : All IsParam params) (full : Ful
       }
 
   -- the test is open
-  open_goes : (test : Expr) (b : Bool) (taken : List Stmt) (other : Option (List Stmt)) (known : Known) (state : State) → mean_expr (space_with params) full test [] state ≡ value (flag b) state → Agrees params full (known_after known test b) → GoesAll params full taken → GoesAny params full other → Shows (s.If test taken other) (pruned_if None known test (prunes taken) (option_map prunes other)) state
+  open_goes : (test : Expr) (b : Bool) (taken : List Stmt) (other : Option (List Stmt)) (known : Known) (state : State) → mean_expr (setting_with (space_with params) full) test [] state ≡ done (flag b) state → Agrees params full (known_after known test b) → GoesAll params full taken → GoesAny params full other → Shows (s.If test taken other) (pruned_if None known test (prunes taken) (option_map prunes other)) state
   open_goes test true taken None known state m agree goes goes_other =
       let g : GoOn (space_with params) full taken (pruned (known_after known test true) taken) state = goes (known_after known test true) agree state in
       record {
@@ -199,13 +220,13 @@ module _ (params : List ParamEntry) (is_params : All IsParam params) (full : Ful
       subst (λ (shown : List Stmt). Shows (s.If test taken other) shown state) (sym (pruned-If test taken other known)) (at (look known a.name) refl)
     where
       a : Asks params test
-      a = asks params test is_test
+      a = asks params is_params test is_test
 
-      v : SwitchValue (space_with params) full (space_with params).params full.params a.name
+      v : SwitchValue (space_with params).params full.params a.name
       v = switch_value (space_with params) full params full.params is_params valid.values a.name a.named
 
-      m : mean_expr (space_with params) full test [] state ≡ value (flag (turned a.on v.truth)) state
-      m = a.meaning full v.truth state v.meaning
+      m : mean_expr (setting_with (space_with params) full) test [] state ≡ done (flag (turned a.on v.truth)) state
+      m = a.meaning full v.truth state v.value
 
       at : (o : Option Bool) → look known a.name ≡ o → Shows (s.If test taken other) (pruned_if (known_truth known test) known test (prunes taken) (option_map prunes other)) state
       at (Some b) l =
@@ -229,8 +250,8 @@ module _ (params : List ParamEntry) (is_params : All IsParam params) (full : Ful
 
   assign_goes : (n : ℕ) (x : Expr) → IsValue x → (known : Known) (state : State) → Shows (s.Assign (t.Register (e.Number n)) x) (pruned_one (s.Assign (t.Register (e.Number n)) x) known) state
   assign_goes n x v known state =
-      let g : (next : State) × (mean_stmt (space_with params) full (s.Assign (t.Register (e.Number n)) x) [] state ≡ goes_on [] next) = assignment_goes_on (space_with params) full n x v state in
-      let one : in_turn (map (mean_stmt (space_with params) full) (s.Assign (t.Register (e.Number n)) x ∷ [])) [] state ≡ goes_on [] g.0 = one_goes (space_with params) full (s.Assign (t.Register (e.Number n)) x) state g.0 g.1 in
+      let g : (next : State) × (mean_stmt (setting_with (space_with params) full) (s.Assign (t.Register (e.Number n)) x) [] state ≡ done (goes_on []) next) = assignment_goes_on (space_with params) full n x v state in
+      let one : in_turn (map (mean_stmt (setting_with (space_with params) full)) (s.Assign (t.Register (e.Number n)) x ∷ [])) [] state ≡ done (goes_on []) g.0 = one_goes (space_with params) full (s.Assign (t.Register (e.Number n)) x) state g.0 g.1 in
       subst (λ (shown : List Stmt). Shows (s.Assign (t.Register (e.Number n)) x) shown state) (sym (pruned-Assign (t.Register (e.Number n)) x known)) (record { next = g.0; whole_goes = one; shown_goes = one })
 
   more_go : (x : Stmt) (xs : List Stmt) (known : Known) (state : State) (first : Shows x (pruned_one x known) state) → GoesAll params full xs → Agrees params full known → GoOn (space_with params) full (x ∷ xs) (pruned known (x ∷ xs)) state
@@ -239,7 +260,7 @@ module _ (params : List ParamEntry) (is_params : All IsParam params) (full : Ful
   mutual
     one_steady : (depth : ℕ) (x : Stmt) → IsStatement params depth x → (known : Known) → Agrees params full known → (state : State) → Shows x (pruned_one x known) state
     one_steady depth _ (assign _ n x l m v) known agree state = assign_goes n x v known state
-    one_steady depth _ (bare _ xs l are) known agree state = bare_goes xs (all_steady (suc depth) xs are) known agree state
+    one_steady depth _ (braces _ xs l are) known agree state = bare_goes xs (all_steady (suc depth) xs are) known agree state
     one_steady depth _ (when _ test taken l is_test are) known agree state = chosen_if test taken None is_test (all_steady (suc depth) taken are) tt known agree state
     one_steady depth _ (either _ test taken other l is_test are others) known agree state = chosen_if test taken (Some other) is_test (all_steady (suc depth) taken are) (all_steady (suc depth) other others) known agree state
 

@@ -23,8 +23,7 @@ use Rattle.udb_base.specs.declared.refutations.Partial.{Partial}
 use Rattle.udb_spec.specs.Conditions.{holds, same_bytes, value_among, value_of, option_passes}
 use Rattle.udb_spec.specs.CondLaws.{holds-Always, holds-Param}
 use Rattle.udb_spec.specs.Spaces.{InDomain, IsValue, Completes}
-use Rattle.idl_spec.specs.Values.{flag}
-use Rattle.idl_spec.specs.Mean.{given_value, parameter_among}
+use Rattle.idl_spec.specs.Shapes.{parameter_named}
 use Rattle.entry_tree.specs.declared.ParamEntry.{ParamEntry}
 use Rattle.entry_tree.specs.declared.Given.{Given}
 use Rattle.first_spec.specs.Bundle.{IsSwitch, IsParam, IsGiven, Rise, is_flags, is_switch_name}
@@ -96,11 +95,10 @@ own_look (g ∷ gs) r =
 pub always_holds : (space : Space) (full : Full) (c : Cond) → c ≡ Always → holds space full c ≡ true
 always_holds space full c e = ap (holds space full) e ∙ holds-Always space full
 
--- a Boolean parameter's truth value, by its value and by what its name means
-pub record SwitchValue (space : Space) (full : Full) (params : List ParamSpace) (values : List Value) (name : List ℕ) : Type 0 where
+-- a Boolean parameter's truth value
+pub record SwitchValue (params : List ParamSpace) (values : List Value) (name : List ℕ) : Type 0 where
   pub truth : Bool
   pub value : value_among params values name ≡ Some (Flag truth)
-  pub meaning : parameter_among space full params values name ≡ Some (flag truth)
 
 flag_in_domain : (d : Domain) (x : Value) → is_flags d ≡ true → InDomain d x → (b : Bool) × (x ≡ Flag b)
 flag_in_domain Flags (Flag b) e h = (b, refl)
@@ -110,28 +108,56 @@ flag_in_domain (Numbers ns) x e h = absurd (cc)
 flag_in_domain (Range low high) x e h = absurd (cc)
 flag_in_domain (Words ws) x e h = absurd (cc)
 
-pub switch_value : (space : Space) (full : Full) (ps : List ParamEntry) (xs : List Value) → All IsParam ps → AllZip (IsValue space full) (map param_space ps) xs → (name : List ℕ) → is_switch_name ps name ≡ true → SwitchValue space full (map param_space ps) xs name
+pub switch_value : (space : Space) (full : Full) (ps : List ParamEntry) (xs : List Value) → All IsParam ps → AllZip (IsValue space full) (map param_space ps) xs → (name : List ℕ) → is_switch_name ps name ≡ true → SwitchValue (map param_space ps) xs name
 switch_value space full [] xs h z name e = absurd (cc)
 switch_value space full (p ∷ ps) [] h z name e = absurd z
 switch_value space full (p ∷ ps) (x ∷ xs) h z name e = at (same_bytes p.name name) refl (switch_value space full ps xs (All-tail IsParam p ps h) z.1 name)
   where
-    at : (b : Bool) → same_bytes p.name name ≡ b → (is_switch_name ps name ≡ true → SwitchValue space full (map param_space ps) xs name) → SwitchValue space full (map param_space (p ∷ ps)) (x ∷ xs) name
+    at : (b : Bool) → same_bytes p.name name ≡ b → (is_switch_name ps name ≡ true → SwitchValue (map param_space ps) xs name) → SwitchValue (map param_space (p ∷ ps)) (x ∷ xs) name
     at true same rest =
         let f : (b : Bool) × (x ≡ Flag b) = flag_in_domain p.domain x (sym (chosen_true (is_flags p.domain) (is_switch_name ps name) (same_bytes p.name name) same) ∙ e) z.0.in_domain in
         record {
           truth = f.0;
           value = chosen_true (Some x) (value_among (map param_space ps) xs name) (same_bytes p.name name) same ∙ ap Some f.1;
-          meaning =
-              chosen_true (if holds space full p.defined then given_value x else None) (parameter_among space full (map param_space ps) xs name) (same_bytes p.name name) same
-              ∙ (chosen_true (given_value x) None (holds space full p.defined) (always_holds space full p.defined (All-head IsParam p ps h).defined)
-              ∙ ap given_value f.1);
         }
     at false same rest =
-        let r : SwitchValue space full (map param_space ps) xs name = rest (sym (chosen_false (is_flags p.domain) (is_switch_name ps name) (same_bytes p.name name) same) ∙ e) in
+        let r : SwitchValue (map param_space ps) xs name = rest (sym (chosen_false (is_flags p.domain) (is_switch_name ps name) (same_bytes p.name name) same) ∙ e) in
         record {
           truth = r.truth;
           value = chosen_false (Some x) (value_among (map param_space ps) xs name) (same_bytes p.name name) same ∙ r.value;
-          meaning = chosen_false (if holds space full p.defined then given_value x else None) (parameter_among space full (map param_space ps) xs name) (same_bytes p.name name) same ∙ r.meaning;
+        }
+
+-- the parameter of a name, which is Boolean and defined everywhere
+pub record Switch (params : List ParamSpace) (name : List ℕ) : Type 0 where
+  pub param : ParamSpace
+  pub named : parameter_named params name ≡ Some param
+  pub domain : param.domain ≡ Flags
+  pub defined : param.defined ≡ Always
+
+flags_so : (d : Domain) → is_flags d ≡ true → d ≡ Flags
+flags_so Flags e = refl
+flags_so (Numbers ns) e = absurd (cc)
+flags_so (Range low high) e = absurd (cc)
+flags_so (Words ws) e = absurd (cc)
+
+pub switch_named : (ps : List ParamEntry) → All IsParam ps → (name : List ℕ) → is_switch_name ps name ≡ true → Switch (map param_space ps) name
+switch_named [] h name e = absurd (cc)
+switch_named (p ∷ ps) h name e = at (same_bytes p.name name) refl (switch_named ps (All-tail IsParam p ps h) name)
+  where
+    at : (b : Bool) → same_bytes p.name name ≡ b → (is_switch_name ps name ≡ true → Switch (map param_space ps) name) → Switch (map param_space (p ∷ ps)) name
+    at true same rest = record {
+      param = param_space p;
+      named = chosen_true (Some (param_space p)) (parameter_named (map param_space ps) name) (same_bytes p.name name) same;
+      domain = flags_so p.domain (sym (chosen_true (is_flags p.domain) (is_switch_name ps name) (same_bytes p.name name) same) ∙ e);
+      defined = (All-head IsParam p ps h).defined;
+    }
+    at false same rest =
+        let r : Switch (map param_space ps) name = rest (sym (chosen_false (is_flags p.domain) (is_switch_name ps name) (same_bytes p.name name) same) ∙ e) in
+        record {
+          param = r.param;
+          named = chosen_false (Some (param_space p)) (parameter_named (map param_space ps) name) (same_bytes p.name name) same ∙ r.named;
+          domain = r.domain;
+          defined = r.defined;
         }
 
 own_flag : (known : Known) (own name : List ℕ) (d : Domain) → own ≡ name → is_flags d ≡ true → value_with known own d ≡ Flag (flag_of (look known name))

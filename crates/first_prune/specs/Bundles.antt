@@ -7,7 +7,7 @@ use Rattle.first_spec.specs.declared.bundle.FirstBundle.{FirstBundle}
 use Rattle.manual_spec.specs.Entries.{space_of}
 use Rattle.manual_spec.specs.Faithful.{KeepsMean}
 use Rattle.manual_spec.specs.Settled.{SettlesEntry}
-use Rattle.first_prune.specs.Known.{known_of, entries_of, partial_of, completion_with}
+use Rattle.first_prune.specs.Known.{known_of, entries_of, partial_of, completion_with, no_program}
 use Rattle.first_prune.specs.Pruning.{pruned}
 
 -- the body of its instruction, pruned with the given values
@@ -22,7 +22,9 @@ CompletesFirst x full = Completes (space_of (entries_of x)) (partial_of x.config
 
 -- the statements have every outcome of the body, and are never stuck
 abbrev pub KeepsFirst : FirstBundle → List Stmt → Type 0
-KeepsFirst x shown = KeepsMean (space_of (entries_of x)) (partial_of x.config) x.instruction shown
+KeepsFirst x shown =
+    KeepsMean (space_of (entries_of x)) (partial_of x.config) (record { whole = no_program; shown = no_program })
+    x.instruction shown
 
 -- no test of the statements is decided where it stands, and no parameter with one value is named
 abbrev pub SettlesFirst : FirstBundle → List Stmt → Type 0

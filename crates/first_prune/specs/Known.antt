@@ -9,6 +9,7 @@ use Rattle.udb_base.specs.declared.spaces.Domain.TheVariants.{Flags}
 use Rattle.udb_base.specs.declared.spaces.Full.{Full}
 use Rattle.udb_base.specs.declared.refutations.Partial.{Partial}
 use Rattle.udb_spec.specs.Conditions.{same_bytes}
+use Rattle.idl_tree.specs.declared.programs.Program.{Program}
 use Rattle.entry_tree.specs.declared.ParamEntry.{ParamEntry}
 use Rattle.entry_tree.specs.declared.Given.{Given}
 use Rattle.entry_tree.specs.declared.ConfigEntry.{ConfigEntry}
@@ -33,7 +34,12 @@ known_of = map (λ g. (g.name, truth_of g.value))
 
 -- the entries of the bundle's tables
 abbrev pub entries_of : FirstBundle → Entries
-entries_of x = record { extensions = []; params = x.params; instructions = x.instruction ∷ [] }
+entries_of x =
+    record { extensions = []; params = x.params; instructions = x.instruction ∷ []; csrs = []; functions = [] }
+
+-- the bodies of a bundle name neither functions nor CSRs
+abbrev pub no_program : Program
+no_program = record { functions = []; csrs = [] }
 
 -- a constraint for each given value
 abbrev pub partial_of : ConfigEntry → Partial

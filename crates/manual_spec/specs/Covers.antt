@@ -1,7 +1,6 @@
 -- A manual shows exactly the entries that some completion has, each with such a completion.
-use Rattle.std.specs.Prelude.{◌≡◌, ◌++◌, ◌==◌, Bool, true, false, ℕ, List, [], ◌∷◌, map, if◌then◌else◌}
+use Rattle.std.specs.Prelude.{◌≡◌, ◌++◌, ◌==◌, true, false, ℕ, List, [], ◌∷◌, map, if◌then◌else◌}
 use Rattle.std.specs.Fmt.{decimal}
-use Rattle.udb_base.specs.declared.versions.Listed.{Listed}
 use Rattle.udb_base.specs.declared.spaces.Domain.{Domain}
 use Rattle.udb_base.specs.declared.spaces.Domain.TheVariants as d
 use Rattle.udb_base.specs.declared.conditions.Value.TheVariants as v
@@ -19,12 +18,12 @@ use Rattle.entry_tree.specs.declared.ParamEntry.{ParamEntry}
 use Rattle.entry_tree.specs.declared.Encoding.{Encoding}
 use Rattle.entry_tree.specs.declared.InstructionEntry.{InstructionEntry}
 use Rattle.manual_spec.specs.declared.manuals.PartText.{PartText}
-use Rattle.manual_spec.specs.declared.manuals.Shown.{Shown}
 use Rattle.manual_spec.specs.declared.manuals.Shown.TheVariants as s
 use Rattle.manual_spec.specs.declared.manuals.Part.{Part}
 use Rattle.manual_spec.specs.declared.manuals.Manual.{Manual}
 use Rattle.udb_spec.specs.ProofText.{version_text, value_text}
-use Rattle.manual_spec.specs.Entries.{Entries, space_of, HasExtension, HasParam, HasInstruction, fits_base}
+use Rattle.idl_spec.specs.Fields.{is_for}
+use Rattle.manual_spec.specs.Entries.{Entries, space_of, HasExtension, HasParam, HasInstruction}
 use Rattle.manual_spec.specs.Text.{lines_of, codes_rv32, codes_rv64, codes_all}
 
 -- a list of items as a manual shows it: those that some completion has, in order, each once
@@ -87,7 +86,7 @@ variable_row x = base_text x.base ++ (32 ∷ 124 ∷ 32 ∷ x.name ++ (32 ∷ 12
 
 -- a full configuration has a row where it has the instruction and its MXLEN fits the row's base
 abbrev pub HasRow : Space → InstructionEntry → Base → Full → Type 0
-HasRow space x base full = HasInstruction space full x × (fits_base base (mxlen space full) ≡ true)
+HasRow space x base full = HasInstruction space full x × (is_for (mxlen space full) base ≡ true)
 
 pub record IsInstructionPart (space : Space) (part : Partial) (x : InstructionEntry) (shown : Part) : Type 0 where
   pub name : shown.name ≡ x.name
@@ -101,7 +100,7 @@ pub record IsInstructionPart (space : Space) (part : Partial) (x : InstructionEn
   pub statements_alone : body.variables ≡ []
   pub table : shown.shown ≡ s.Instruction matches variables body
 
--- the parts of each kind, in the order of kinds
+-- the parts of each kind, in the order of kinds; CSRs and functions join when their text is defined
 pub record ShowsEntries (space : Space) (part : Partial) (entries : Entries) (parts : List Part) : Type 0 where
   pub extensions : List Part
   pub shows_extensions : Shows (Completes space part) (HasExtension space) (IsExtensionPart space part) entries.extensions extensions

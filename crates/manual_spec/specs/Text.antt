@@ -1,5 +1,5 @@
 -- The text of a manual, by lines. The text of CSRs and functions comes with their entries.
-use Rattle.std.specs.Prelude.{◌≡◌, ◌++◌, ◌==◌, Bool, true, false, ℕ, List, [], ◌∷◌, map, length, codes, if◌then◌else◌}
+use Rattle.std.specs.Prelude.{◌++◌, ◌==◌, ℕ, List, [], ◌∷◌, map, length, codes, if◌then◌else◌}
 use Rattle.std.specs.List.{flat_map}
 use Rattle.std.specs.Fmt.{decimal}
 use Rattle.udb_base.specs.declared.spaces.Space.{Space}

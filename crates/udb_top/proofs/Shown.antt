@@ -1,19 +1,14 @@
 -- The parts that are made show their entries.
-use Rattle.std.proofs.Common.{◌≡◌, ◌<◌, ℕ, Bool, true, false, not, nat_lt, List, [], ◌∷◌, ◌++◌, map, refl, ap, sym, ◌∙◌, subst, Some, None, cond, arith}
+use Rattle.std.proofs.Common.{◌≡◌, ℕ, Bool, true, false, not, nat_lt, List, [], ◌∷◌, map, refl, ap, sym, ◌∙◌, subst, cond}
 use Rattle.std.specs.Prelude.{All, IsTrue, codes, ◌==◌, ◌&&◌}
-use Rattle.std.specs.List.{list_any}
 use Rattle.manual_spec.specs.declared.manuals.Shown.TheVariants.{Parameter}
 use Rattle.std.specs.Fmt.{decimal, digits}
-use Rattle.std.proofs.lemmas.List.Elements.{All-nil, All-head, All-tail}
+use Rattle.std.proofs.lemmas.List.Elements.{All-head, All-tail}
 use Rattle.udb_base.specs.declared.spaces.Domain.{Domain}
 use Rattle.udb_base.specs.declared.spaces.Domain.TheVariants.{Flags, Numbers, Range, Words}
 use Rattle.udb_base.specs.declared.spaces.Full.{Full}
 use Rattle.udb_base.specs.declared.spaces.Space.{Space}
-use Rattle.udb_base.specs.declared.conditions.Cond.{Cond}
-use Rattle.udb_base.specs.declared.conditions.Cond.TheVariants.{Always}
-use Rattle.udb_spec.specs.Conditions.{holds}
-use Rattle.udb_spec.specs.CondLaws.{holds-Always}
-use Rattle.udb_spec.specs.Spaces.{Completes, mxlen}
+use Rattle.udb_spec.specs.Spaces.{Completes}
 use Rattle.udb_base.specs.declared.refutations.Partial.{Partial}
 use Rattle.idl_tree.specs.declared.programs.Base.TheVariants.{All as EachBase}
 use Rattle.idl_tree.specs.declared.programs.Variable.{Variable}
@@ -22,18 +17,16 @@ use Rattle.entry_tree.specs.declared.ParamEntry.{ParamEntry}
 use Rattle.entry_tree.specs.declared.Encoding.{Encoding}
 use Rattle.entry_tree.specs.declared.InstructionEntry.{InstructionEntry}
 use Rattle.first_spec.specs.declared.bundle.FirstBundle.{FirstBundle}
-use Rattle.first_spec.specs.Alphabets.{is_text, is_spaced, begins, is_upper, is_letter_or_digit}
-use Rattle.first_spec.specs.Bundle.{IsSwitch, IsParam, IsInstruction, IsFirst, digits_among}
-use Rattle.manual_spec.specs.declared.manuals.PartText.{PartText}
-use Rattle.manual_spec.specs.declared.manuals.Part.{Part}
-use Rattle.manual_spec.specs.declared.manuals.Manual.{Manual}
+use Rattle.first_spec.specs.Alphabets.{is_text}
+use Rattle.first_spec.specs.Bundle.{IsSwitch, IsParam, IsInstruction, IsFirst}
 use Rattle.manual_spec.specs.Text.{lines_of, onto_first}
-use Rattle.manual_spec.specs.Entries.{Entries, space_of, HasExtension, HasParam, HasInstruction}
-use Rattle.manual_spec.specs.Covers.{Shows, none, shown, IsText, HasCompletion, IsParamPart, IsInstructionPart, ShowsEntries, Covers, HasRow, match_row, variable_row, domain_lines}
+use Rattle.manual_spec.specs.Entries.{space_of, HasParam, HasInstruction}
+use Rattle.manual_spec.specs.Covers.{Shows, none, shown, IsText, IsParamPart, IsInstructionPart, Covers, HasRow, match_row, variable_row, domain_lines}
 use Rattle.first_bundle.proofs.Clean.{is_clean, clean, left_so, right_so}
 use Rattle.first_bundle.proofs.Names.{clean_text}
 use Rattle.first_prune.specs.Known.{entries_of, partial_of}
-use Rattle.first_prune.proofs.Shown.{always_holds, has_instruction}
+use Rattle.first_prune.proofs.Worlds.{always_holds}
+use Rattle.first_prune.proofs.Shown.{has_first}
 use Rattle.udb_top.specs.Making.{one_line_each, value_rows, encoding_rows, param_part, instruction_part, manual_with}
 
 no_feed : (b : ℕ) (t : Bool) → (b == 10) ≡ t → (nat_lt b 128 && not (b == 10)) ≡ true → (b == 10) ≡ false
@@ -100,9 +93,9 @@ module _ (space : Space) (part : Partial) (full : Full) (complete : Completes sp
   instruction_shown ps x statements h = record {
     name = refl;
     text = subst (λ (a : List ℕ). IsText x.long_name x.description a (one_line_each x.long_name x.description)) (sym h.assembly) (is_one_text x.long_name x.description h.long_name h.description);
-    completion = record { completes = complete; has = has_instruction space full ps x h };
+    completion = record { completes = complete; has = has_first space full ps x h };
     matches = encoding_rows x.encodings;
-    match_rows = row_shown x (has_instruction space full ps x h) x.encodings h.digits h.encodings;
+    match_rows = row_shown x (has_first space full ps x h) x.encodings h.digits h.encodings;
     variables = [];
     variable_rows = no_variables x x.operation.variables h.variables;
     body = record { variables = []; statements = statements };
@@ -123,7 +116,7 @@ made_covers x full statements h complete =
         params = map (param_part full) x.params;
         shows_params = params_shown space (partial_of x.config) full complete x.params h.params;
         instructions = instruction_part full x.instruction statements ∷ [];
-        shows_instructions = shown full complete (has_instruction space full x.params x.instruction h.instruction) (instruction_shown space (partial_of x.config) full complete x.params x.instruction statements h.instruction) none;
+        shows_instructions = shown full complete (has_first space full x.params x.instruction h.instruction) (instruction_shown space (partial_of x.config) full complete x.params x.instruction statements h.instruction) none;
         in_order = refl;
       };
     }
