@@ -1,0 +1,17 @@
+pub mod ArgumentParts
+pub mod Bytes
+pub mod ChoicePlaces
+pub mod Endings
+pub mod FieldNumbers
+pub mod FieldPlaces
+pub mod KeptParts
+pub mod KindForms
+pub mod KindNumbers
+pub mod Masks
+pub mod Members
+pub mod PresentFields
+pub mod SceneKinds
+pub mod ShapeParts
+pub mod VariableBits
+pub mod Widths
+pub mod WordKinds

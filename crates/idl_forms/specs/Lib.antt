@@ -1,0 +1,9 @@
+pub mod States
+pub mod Scenes
+pub mod Kinds
+pub mod NumberedKinds
+pub mod Variables
+pub mod FieldSums
+pub mod Ready
+pub mod Steps
+pub mod Accesses
