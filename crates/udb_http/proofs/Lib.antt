@@ -1,0 +1,9 @@
+pub mod AnswerLemmas
+pub mod HeadLemmas
+pub mod LengthLemmas
+pub mod NextLemmas
+pub mod ReplyLemmas
+pub mod RouteLemmas
+pub mod ScanLemmas
+pub mod SeekLemmas
+pub mod UniqueLemmas

@@ -1,0 +1,9 @@
+pub mod Frames
+pub mod Framing
+pub mod Heads
+pub mod Refusals
+pub mod Replies
+pub mod Routes
+pub mod Scans
+pub mod Sessions
+pub mod Table
