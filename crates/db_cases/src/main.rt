@@ -3,7 +3,7 @@
 #![tactic(auto)]
 
 ghost use Rattle.std.specs.Prelude.{◌≡◌, IsTrue};
-ghost use Rattle.udb_entry.specs.First.{is_read_kind};
+ghost use Rattle.db_spec.specs.Kinds.{is_read_kind};
 ghost use Rattle.db_spec.specs.First.{HasReadKinds};
 ghost use Rattle.udb_bundle.specs.Bundles as bundle;
 

@@ -1,5 +1,5 @@
 -- The entries that rows give: one for each row, of its kind and name.
-use Rattle.std.proofs.Common.{◌≡◌, ℕ, zero, suc, ◌+◌, ◌<◌, ◌≤◌, Bool, true, false, cond, IsTrue, List, [], ◌∷◌, ◌++◌, length, get_or, take, Option, Some, None, codes, refl, sym, ap, subst, ◌∙◌, arith}
+use Rattle.std.proofs.Common.{◌≡◌, ℕ, zero, suc, ◌+◌, ◌<◌, ◌≤◌, Bool, true, false, cond, List, [], ◌∷◌, ◌++◌, length, get_or, take, Option, Some, None, codes, refl, sym, ap, subst, ◌∙◌, arith}
 use Rattle.std.specs.List.{Contains, AllZip, All}
 use Rattle.std.specs.Str.{bytes_eq}
 use Rattle.std.specs.Cmp.Lexicographic.{bytes_decides}
@@ -12,45 +12,46 @@ use Rattle.udb_entry.specs.declared.answers.Entry.{Entry}
 use Rattle.udb_entry.specs.Keys.{text_at}
 use Rattle.udb_entry.specs.Entries.{entry_of}
 use Rattle.udb_entry.specs.Rules.{Lines, name_rule, one_line}
-use Rattle.udb_entry.specs.First.{first_of, rules_of, Gives, is_read_kind}
+use Rattle.udb_entry.specs.declared.answers.Breach.{Breach}
+use Rattle.udb_entry.specs.First.{broken, or_else, Gives}
 use Rattle.udb_entry.proofs.AnswerLemmas.{gives_one}
 use Rattle.db_spec.specs.Entries.{kind_of, name_of}
 use Rattle.db_spec.specs.Breaks.{Give}
-use Rattle.db_spec.specs.First.{HasReadKinds}
 
 -- ---- the key of an entry is its row's
 
-kind_kept : (k : Kind) (t : Tree) → IsTrue (is_read_kind k) → kind_of (entry_of k t) ≡ k
-kind_kept kind.Extension t h = refl
-kind_kept kind.Parameter t h = refl
-kind_kept kind.Instruction t h = absurd (cc)
-kind_kept kind.Csr t h = absurd (cc)
-kind_kept kind.Functions t h = absurd (cc)
-kind_kept kind.Config t h = refl
+kind_kept : (k : Kind) (t : Tree) → kind_of (entry_of k t) ≡ k
+kind_kept kind.Extension t = refl
+kind_kept kind.Parameter t = refl
+kind_kept kind.Instruction t = refl
+kind_kept kind.Csr t = refl
+kind_kept kind.Functions t = refl
+kind_kept kind.Config t = refl
 
-name_kept : (k : Kind) (t : Tree) → IsTrue (is_read_kind k) → name_of (entry_of k t) ≡ text_at t (codes "name")
-name_kept kind.Extension t h = refl
-name_kept kind.Parameter t h = refl
-name_kept kind.Instruction t h = absurd (cc)
-name_kept kind.Csr t h = absurd (cc)
-name_kept kind.Functions t h = absurd (cc)
-name_kept kind.Config t h = refl
+name_kept : (k : Kind) (t : Tree) → name_of (entry_of k t) ≡ text_at t (codes "name")
+name_kept kind.Extension t = refl
+name_kept kind.Parameter t = refl
+name_kept kind.Instruction t = refl
+name_kept kind.Csr t = refl
+name_kept kind.Functions t = refl
+name_kept kind.Config t = refl
 
-first_gone : (o : Option Lines) (rs : List (ℕ × Option Lines)) → first_of ((3, o) ∷ rs) ≡ None → o ≡ None
-first_gone None rs e = refl
-first_gone (Some s) rs e = absurd (cc)
+-- where neither of two is broken
+pub both_kept : (n : ℕ) (o : Option Lines) (b : Option Breach) → or_else (broken n o) b ≡ None → (o ≡ None) × (b ≡ None)
+both_kept n None b e = (refl, e)
+both_kept n (Some s) b e = absurd (cc)
 
 same_by : (b : Bool) (s : Lines) (a c : List ℕ) → bytes_eq a c ≡ b → cond b None (Some s) ≡ None → a ≡ c
 same_by true s a c e h = (bytes_decides a c).0 e
 same_by false s a c e h = absurd (cc)
 
-pub gives_kind : (row : Row) (e : Entry) → IsTrue (is_read_kind row.kind) → Gives row e → kind_of e ≡ row.kind
-gives_kind row e k g = ap kind_of g.is ∙ kind_kept row.kind g.tree k
+pub gives_kind : (row : Row) (e : Entry) → Gives row e → kind_of e ≡ row.kind
+gives_kind row e g = ap kind_of g.is ∙ kind_kept row.kind g.tree
 
-pub gives_name : (row : Row) (e : Entry) → IsTrue (is_read_kind row.kind) → Gives row e → name_of e ≡ row.name
-gives_name row e k g =
-    ap name_of g.is ∙ (name_kept row.kind g.tree k
-    ∙ same_by (bytes_eq (text_at g.tree (codes "name")) row.name) (one_line (text_at g.tree (codes "name"))) (text_at g.tree (codes "name")) row.name refl (first_gone _ _ g.unbroken))
+pub gives_name : (row : Row) (e : Entry) → Gives row e → name_of e ≡ row.name
+gives_name row e g =
+    ap name_of g.is ∙ (name_kept row.kind g.tree
+    ∙ same_by (bytes_eq (text_at g.tree (codes "name")) row.name) (one_line (text_at g.tree (codes "name"))) (text_at g.tree (codes "name")) row.name refl (both_kept 3 _ _ g.unbroken).0)
 
 -- ---- one list of entries
 

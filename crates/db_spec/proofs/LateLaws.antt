@@ -5,9 +5,12 @@ use Rattle.udb_base.specs.declared.rows.Row.{Row}
 use Rattle.udb_base.specs.declared.spaces.Space.{Space}
 use Rattle.entry_tree.specs.declared.ExtensionEntry.{ExtensionEntry}
 use Rattle.entry_tree.specs.declared.ParamEntry.{ParamEntry}
+use Rattle.entry_tree.specs.declared.InstructionEntry.{InstructionEntry}
+use Rattle.entry_tree.specs.declared.CsrEntry.{CsrEntry}
+use Rattle.entry_tree.specs.declared.FunctionsEntry.{FunctionsEntry}
 use Rattle.entry_tree.specs.declared.ConfigEntry.{ConfigEntry}
 use Rattle.udb_entry.specs.declared.answers.Entry.{Entry}
-use Rattle.udb_entry.specs.declared.answers.Entry.TheVariants.{Extension, Param, Config}
+use Rattle.udb_entry.specs.declared.answers.Entry.TheVariants.{Extension, Param, Instruction, Csr, Functions, Config}
 use Rattle.udb_entry.specs.Rules.{Lines}
 use Rattle.db_spec.specs.Rules.{Rule, rule_number, pass_of, is_spelled, meets_schema, has_name, has_alphabet, versions_rise, domain_is_sound, encodings_are_formed, conditions_are_read, bodies_are_read, names_are_known, functions_are_declared_once, addresses_are_apart, words_are_known, kinds_fit, widths_fit, slices_fit, parts_are_present, cost_is_bounded, order_is_kept, encodings_are_apart, fields_are_apart, some_full, has_completion}
 use Rattle.db_spec.specs.Sites.{Site, entry, database, is_before, is_earlier}
@@ -16,10 +19,13 @@ use Rattle.db_spec.specs.Breaks.{AtEntry, AtDatabase, HasUnknownName, HasRepeate
 
 -- ---- rules that no entry of these kinds breaks
 
-never_by : (e : Entry) (P : Entry → Type 0) → ((x : ExtensionEntry) → P (Extension x) → ⊥) → ((x : ParamEntry) → P (Param x) → ⊥) → ((x : ConfigEntry) → P (Config x) → ⊥) → P e → ⊥
-never_by (Extension x) P a b c h = a x h
-never_by (Param x) P a b c h = b x h
-never_by (Config x) P a b c h = c x h
+never_by : (e : Entry) (P : Entry → Type 0) → ((x : ExtensionEntry) → P (Extension x) → ⊥) → ((x : ParamEntry) → P (Param x) → ⊥) → ((x : InstructionEntry) → P (Instruction x) → ⊥) → ((x : CsrEntry) → P (Csr x) → ⊥) → ((x : FunctionsEntry) → P (Functions x) → ⊥) → ((x : ConfigEntry) → P (Config x) → ⊥) → P e → ⊥
+never_by (Extension x) P a b c d f g h = a x h
+never_by (Param x) P a b c d f g h = b x h
+never_by (Instruction x) P a b c d f g h = c x h
+never_by (Csr x) P a b c d f g h = d x h
+never_by (Functions x) P a b c d f g h = f x h
+never_by (Config x) P a b c d f g h = g x h
 
 no_entry : (rows : List Row) (site : Site) (P : Space → Entry → Type 0) → ((space : Space) (e : Entry) → P space e → ⊥) → AtEntry rows site P → ⊥
 no_entry rows database P n h = h
@@ -43,17 +49,17 @@ breach_way rows site encodings_are_formed l h = inl refl
 breach_way rows site conditions_are_read l h = inl refl
 breach_way rows site bodies_are_read l h = inl refl
 breach_way rows site names_are_known l h = inr (of_names refl h)
-breach_way rows site functions_are_declared_once l h = absurd (no_entry rows site (λ space e. HasRepeatedFunction space e l) (λ space e. never_by e (λ d. HasRepeatedFunction space d l) (λ x y. y) (λ x y. y) (λ x y. y)) h)
-breach_way rows site addresses_are_apart l h = absurd (no_entry rows site (λ space e. HasSharedAddress space e l) (λ space e. never_by e (λ d. HasSharedAddress space d l) (λ x y. y) (λ x y. y) (λ x y. y)) h)
-breach_way rows site words_are_known l h = absurd (no_entry rows site (λ space e. HasUnknownWord space e l) (λ space e. never_by e (λ d. HasUnknownWord space d l) (λ x y. y) (λ x y. y) (λ x y. y)) h)
-breach_way rows site kinds_fit l h = absurd (no_entry rows site (λ space e. HasMismatch space e l) (λ space e. never_by e (λ d. HasMismatch space d l) (λ x y. y) (λ x y. y) (λ x y. y)) h)
-breach_way rows site widths_fit l h = absurd (no_entry rows site (λ space e. HasWrongWidth space e l) (λ space e. never_by e (λ d. HasWrongWidth space d l) (λ x y. y) (λ x y. y) (λ x y. y)) h)
-breach_way rows site slices_fit l h = absurd (no_entry rows site (λ space e. HasWrongSlice space e l) (λ space e. never_by e (λ d. HasWrongSlice space d l) (λ x y. y) (λ x y. y) (λ x y. y)) h)
-breach_way rows site parts_are_present l h = absurd (no_entry rows site (λ space e. HasAbsentPart space e l) (λ space e. never_by e (λ d. HasAbsentPart space d l) (λ x y. y) (λ x y. y) (λ x y. y)) h)
-breach_way rows site cost_is_bounded l h = absurd (no_entry rows site (λ space e. HasExcessCost space e l) (λ space e. never_by e (λ d. HasExcessCost space d l) (λ x y. y) (λ x y. y) (λ x y. y)) h)
-breach_way rows site order_is_kept l h = absurd (no_entry rows site (λ space e. HasWrongOrder space e l) (λ space e. never_by e (λ d. HasWrongOrder space d l) (λ x y. y) (λ x y. y) (λ x y. y)) h)
-breach_way rows site encodings_are_apart l h = absurd (no_entry rows site (λ space e. HasSharedWord space e l) (λ space e. never_by e (λ d. HasSharedWord space d l) (λ x y. y) (λ x y. y) (λ x y. y)) h)
-breach_way rows site fields_are_apart l h = absurd (no_entry rows site (λ space e. HasSharedBit space e l) (λ space e. never_by e (λ d. HasSharedBit space d l) (λ x y. y) (λ x y. y) (λ x y. y)) h)
+breach_way rows site functions_are_declared_once l h = absurd (no_entry rows site (λ space e. HasRepeatedFunction space e l) (λ space e. never_by e (λ d. HasRepeatedFunction space d l) (λ x y. y) (λ x y. y) (λ x y. y) (λ x y. y) (λ x y. y) (λ x y. y)) h)
+breach_way rows site addresses_are_apart l h = absurd (no_entry rows site (λ space e. HasSharedAddress space e l) (λ space e. never_by e (λ d. HasSharedAddress space d l) (λ x y. y) (λ x y. y) (λ x y. y) (λ x y. y) (λ x y. y) (λ x y. y)) h)
+breach_way rows site words_are_known l h = absurd (no_entry rows site (λ space e. HasUnknownWord space e l) (λ space e. never_by e (λ d. HasUnknownWord space d l) (λ x y. y) (λ x y. y) (λ x y. y) (λ x y. y) (λ x y. y) (λ x y. y)) h)
+breach_way rows site kinds_fit l h = absurd (no_entry rows site (λ space e. HasMismatch space e l) (λ space e. never_by e (λ d. HasMismatch space d l) (λ x y. y) (λ x y. y) (λ x y. y) (λ x y. y) (λ x y. y) (λ x y. y)) h)
+breach_way rows site widths_fit l h = absurd (no_entry rows site (λ space e. HasWrongWidth space e l) (λ space e. never_by e (λ d. HasWrongWidth space d l) (λ x y. y) (λ x y. y) (λ x y. y) (λ x y. y) (λ x y. y) (λ x y. y)) h)
+breach_way rows site slices_fit l h = absurd (no_entry rows site (λ space e. HasWrongSlice space e l) (λ space e. never_by e (λ d. HasWrongSlice space d l) (λ x y. y) (λ x y. y) (λ x y. y) (λ x y. y) (λ x y. y) (λ x y. y)) h)
+breach_way rows site parts_are_present l h = absurd (no_entry rows site (λ space e. HasAbsentPart space e l) (λ space e. never_by e (λ d. HasAbsentPart space d l) (λ x y. y) (λ x y. y) (λ x y. y) (λ x y. y) (λ x y. y) (λ x y. y)) h)
+breach_way rows site cost_is_bounded l h = absurd (no_entry rows site (λ space e. HasExcessCost space e l) (λ space e. never_by e (λ d. HasExcessCost space d l) (λ x y. y) (λ x y. y) (λ x y. y) (λ x y. y) (λ x y. y) (λ x y. y)) h)
+breach_way rows site order_is_kept l h = absurd (no_entry rows site (λ space e. HasWrongOrder space e l) (λ space e. never_by e (λ d. HasWrongOrder space d l) (λ x y. y) (λ x y. y) (λ x y. y) (λ x y. y) (λ x y. y) (λ x y. y)) h)
+breach_way rows site encodings_are_apart l h = absurd (no_entry rows site (λ space e. HasSharedWord space e l) (λ space e. never_by e (λ d. HasSharedWord space d l) (λ x y. y) (λ x y. y) (λ x y. y) (λ x y. y) (λ x y. y) (λ x y. y)) h)
+breach_way rows site fields_are_apart l h = absurd (no_entry rows site (λ space e. HasSharedBit space e l) (λ space e. never_by e (λ d. HasSharedBit space d l) (λ x y. y) (λ x y. y) (λ x y. y) (λ x y. y) (λ x y. y) (λ x y. y)) h)
 breach_way rows site some_full l h = inr (of_full refl h)
 breach_way rows site has_completion l h = inr (of_config refl h)
 

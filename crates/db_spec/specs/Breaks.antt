@@ -22,11 +22,12 @@ use Rattle.udb_spec.specs.Refutes.{refutes}
 use Rattle.udb_spec.specs.ProofText.{proof_lines}
 use Rattle.udb_lawful.specs.Misfit.{first_misfit}
 use Rattle.udb_entry.specs.declared.answers.Entry.{Entry}
-use Rattle.udb_entry.specs.declared.answers.Entry.TheVariants.{Extension, Param, Config}
-use Rattle.udb_entry.specs.Schemas.{schema_of}
-use Rattle.udb_entry.specs.Rules.{Lines, name_rule, alphabet_rule, version_rule, domain_rule, condition_rule}
+use Rattle.udb_entry.specs.declared.answers.Entry.TheVariants.{Extension, Param, Instruction, Csr, Functions, Config}
+use Rattle.entry_form.specs.Forms.{schema_of}
+use Rattle.udb_entry.specs.Rules.{Lines, name_rule, alphabet_rule}
 use Rattle.udb_entry.specs.First.{fault_line, word_text, Gives}
 use Rattle.db_spec.specs.Rules.{Rule, is_spelled, meets_schema, has_name, has_alphabet, versions_rise, domain_is_sound, encodings_are_formed, conditions_are_read, bodies_are_read, names_are_known, functions_are_declared_once, addresses_are_apart, words_are_known, kinds_fit, widths_fit, slices_fit, parts_are_present, cost_is_bounded, order_is_kept, encodings_are_apart, fields_are_apart, some_full, has_completion}
+use Rattle.db_spec.specs.Kinds.{kind_version_rule, kind_domain_rule, kind_condition_rule}
 use Rattle.db_spec.specs.Sites.{Site, entry, database}
 use Rattle.db_spec.specs.Entries.{kind_of, name_of, space_of, conditions_of, width_name, DependsOnWidth, HasWidths, unconfigured, part_of}
 
@@ -99,14 +100,14 @@ HasOtherAlphabet row shows = BreaksTree row (alphabet_rule row.kind) shows
 
 -- 5: versions can be read and rise strictly
 abbrev pub HasWrongVersion : Row → Lines → Type 0
-HasWrongVersion row shows = BreaksTree row (version_rule row.kind) shows
+HasWrongVersion row shows = BreaksTree row (kind_version_rule row.kind) shows
 
 -- 6: a domain has no value twice, and no low end above its high end
 abbrev pub HasWrongDomain : Row → Lines → Type 0
-HasWrongDomain row shows = BreaksTree row (domain_rule row.kind) shows
+HasWrongDomain row shows = BreaksTree row (kind_domain_rule row.kind) shows
 
--- Instructions, CSRs and functions aren't read yet. In the rules 7, 9 and 11 to 21 they add what they can break; entries
--- of the other kinds keep these rules.
+-- Instructions, CSRs and functions aren't examined yet. In the rules 7, 9 and 11 to 21 they add what they can break;
+-- entries of the other kinds keep these rules.
 
 -- 7: matches, variables and locations are well formed
 abbrev pub HasWrongEncoding : Kind → Row → Lines → Type 0
@@ -119,7 +120,7 @@ HasWrongEncoding kind.Config row shows = ⊥
 
 -- 8: conditions, requirements and members can be read
 abbrev pub HasUnreadCondition : Row → Lines → Type 0
-HasUnreadCondition row shows = BreaksTree row (condition_rule row.kind) shows
+HasUnreadCondition row shows = BreaksTree row (kind_condition_rule row.kind) shows
 
 -- 9: bodies can be read
 abbrev pub HasUnreadBody : Kind → Row → Lines → Type 0
@@ -142,12 +143,18 @@ pub data HasUnknownName (space : Space) (e : Entry) (shows : Lines) : Type 0 whe
 abbrev pub HasRepeatedFunction : Space → Entry → Lines → Type 0
 HasRepeatedFunction space (Extension x) shows = ⊥
 HasRepeatedFunction space (Param x) shows = ⊥
+HasRepeatedFunction space (Instruction x) shows = ⊥
+HasRepeatedFunction space (Csr x) shows = ⊥
+HasRepeatedFunction space (Functions x) shows = ⊥
 HasRepeatedFunction space (Config x) shows = ⊥
 
 -- 12: no two CSRs of one address are present in one valid full configuration
 abbrev pub HasSharedAddress : Space → Entry → Lines → Type 0
 HasSharedAddress space (Extension x) shows = ⊥
 HasSharedAddress space (Param x) shows = ⊥
+HasSharedAddress space (Instruction x) shows = ⊥
+HasSharedAddress space (Csr x) shows = ⊥
+HasSharedAddress space (Functions x) shows = ⊥
 HasSharedAddress space (Config x) shows = ⊥
 
 -- ---- types of bodies
@@ -156,42 +163,63 @@ HasSharedAddress space (Config x) shows = ⊥
 abbrev pub HasUnknownWord : Space → Entry → Lines → Type 0
 HasUnknownWord space (Extension x) shows = ⊥
 HasUnknownWord space (Param x) shows = ⊥
+HasUnknownWord space (Instruction x) shows = ⊥
+HasUnknownWord space (Csr x) shows = ⊥
+HasUnknownWord space (Functions x) shows = ⊥
 HasUnknownWord space (Config x) shows = ⊥
 
 -- 14: the kinds of its parts fit
 abbrev pub HasMismatch : Space → Entry → Lines → Type 0
 HasMismatch space (Extension x) shows = ⊥
 HasMismatch space (Param x) shows = ⊥
+HasMismatch space (Instruction x) shows = ⊥
+HasMismatch space (Csr x) shows = ⊥
+HasMismatch space (Functions x) shows = ⊥
 HasMismatch space (Config x) shows = ⊥
 
 -- 15: its widths are 1 to 128 where they are reached
 abbrev pub HasWrongWidth : Space → Entry → Lines → Type 0
 HasWrongWidth space (Extension x) shows = ⊥
 HasWrongWidth space (Param x) shows = ⊥
+HasWrongWidth space (Instruction x) shows = ⊥
+HasWrongWidth space (Csr x) shows = ⊥
+HasWrongWidth space (Functions x) shows = ⊥
 HasWrongWidth space (Config x) shows = ⊥
 
 -- 16: its slices lie within their operands
 abbrev pub HasWrongSlice : Space → Entry → Lines → Type 0
 HasWrongSlice space (Extension x) shows = ⊥
 HasWrongSlice space (Param x) shows = ⊥
+HasWrongSlice space (Instruction x) shows = ⊥
+HasWrongSlice space (Csr x) shows = ⊥
+HasWrongSlice space (Functions x) shows = ⊥
 HasWrongSlice space (Config x) shows = ⊥
 
 -- 17: what it names is present where it is reached
 abbrev pub HasAbsentPart : Space → Entry → Lines → Type 0
 HasAbsentPart space (Extension x) shows = ⊥
 HasAbsentPart space (Param x) shows = ⊥
+HasAbsentPart space (Instruction x) shows = ⊥
+HasAbsentPart space (Csr x) shows = ⊥
+HasAbsentPart space (Functions x) shows = ⊥
 HasAbsentPart space (Config x) shows = ⊥
 
 -- 18: its cost is within the limit
 abbrev pub HasExcessCost : Space → Entry → Lines → Type 0
 HasExcessCost space (Extension x) shows = ⊥
 HasExcessCost space (Param x) shows = ⊥
+HasExcessCost space (Instruction x) shows = ⊥
+HasExcessCost space (Csr x) shows = ⊥
+HasExcessCost space (Functions x) shows = ⊥
 HasExcessCost space (Config x) shows = ⊥
 
 -- 19: it calls what is declared before it
 abbrev pub HasWrongOrder : Space → Entry → Lines → Type 0
 HasWrongOrder space (Extension x) shows = ⊥
 HasWrongOrder space (Param x) shows = ⊥
+HasWrongOrder space (Instruction x) shows = ⊥
+HasWrongOrder space (Csr x) shows = ⊥
+HasWrongOrder space (Functions x) shows = ⊥
 HasWrongOrder space (Config x) shows = ⊥
 
 -- ---- encodings and fields
@@ -200,12 +228,18 @@ HasWrongOrder space (Config x) shows = ⊥
 abbrev pub HasSharedWord : Space → Entry → Lines → Type 0
 HasSharedWord space (Extension x) shows = ⊥
 HasSharedWord space (Param x) shows = ⊥
+HasSharedWord space (Instruction x) shows = ⊥
+HasSharedWord space (Csr x) shows = ⊥
+HasSharedWord space (Functions x) shows = ⊥
 HasSharedWord space (Config x) shows = ⊥
 
 -- 21: no two present fields of a present CSR share a bit, and none passes its length
 abbrev pub HasSharedBit : Space → Entry → Lines → Type 0
 HasSharedBit space (Extension x) shows = ⊥
 HasSharedBit space (Param x) shows = ⊥
+HasSharedBit space (Instruction x) shows = ⊥
+HasSharedBit space (Csr x) shows = ⊥
+HasSharedBit space (Functions x) shows = ⊥
 HasSharedBit space (Config x) shows = ⊥
 
 -- ---- full configurations
@@ -221,6 +255,9 @@ pub record HasNoCompletion (space : Space) (part : Partial) (shows : Lines) : Ty
 abbrev pub LacksCompletion : Space → Entry → Lines → Type 0
 LacksCompletion space (Extension x) shows = ⊥
 LacksCompletion space (Param x) shows = ⊥
+LacksCompletion space (Instruction x) shows = ⊥
+LacksCompletion space (Csr x) shows = ⊥
+LacksCompletion space (Functions x) shows = ⊥
 LacksCompletion space (Config x) shows = HasNoCompletion space (part_of space x) shows
 
 -- ---- all rules

@@ -2,9 +2,9 @@
 use Rattle.std.specs.Prelude.{◌≡◌, ◌≤◌, false, IsTrue, ℕ, List, Option, None, Some, All}
 use Rattle.udb_base.specs.declared.rows.Row.{Row}
 use Rattle.udb_entry.specs.Rules.{Lines}
-use Rattle.udb_entry.specs.First.{is_read_kind}
 use Rattle.db_spec.specs.declared.broken.Broken.{Broken}
 use Rattle.db_spec.specs.Rules.{Rule, rule_number}
+use Rattle.db_spec.specs.Kinds.{is_read_kind}
 use Rattle.db_spec.specs.Sites.{Site, entry, database, is_earlier}
 use Rattle.db_spec.specs.Breaks.{Breaks}
 
@@ -34,6 +34,6 @@ pub record IsFirst (rows : List Row) (b : Broken) : Type 0 where
   pub first : First rows site rule shows
   pub is : b ≡ told site rule shows
 
--- all rows are of kinds that are read so far
+-- all rows are of kinds that are examined so far
 abbrev pub HasReadKinds : List Row → Type 0
 HasReadKinds rows = All (λ r. IsTrue (is_read_kind r.kind)) rows

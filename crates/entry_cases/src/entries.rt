@@ -1,16 +1,10 @@
 //! Entries as texts.
 
-use case_text::line_of;
+use crate::programs::{push_csr, push_functions, push_instruction, push_text};
 use cond_text::{push_cond, push_members, push_value, push_version};
 use std::alloc::Global;
 use udb_base::{Cond, Domain, Listed, NoMemory, Value};
 use udb_entry::{ConfigEntry, ConfigKind, Entry, ExtensionEntry, Given, ParamEntry};
-
-fn push_text(alloc: Global, to: &mut String, text: &str) -> Result<(), NoMemory> {
-    to.push_str(" \"")?;
-    to.push_str(line_of(alloc, text)?.as_str())?;
-    to.push_str("\"")
-}
 
 fn push_listed(to: &mut String, versions: &[Listed]) -> Result<(), NoMemory> {
     for listed in versions {
@@ -104,6 +98,9 @@ pub fn push_entry(alloc: Global, to: &mut String, entry: &Entry) -> Result<(), N
     match entry {
         Entry::Extension(entry) => push_extension(alloc, to, entry),
         Entry::Param(entry) => push_param(alloc, to, entry),
+        Entry::Instruction(entry) => push_instruction(alloc, to, entry),
+        Entry::Csr(entry) => push_csr(alloc, to, entry),
+        Entry::Functions(entry) => push_functions(alloc, to, entry),
         Entry::Config(entry) => push_config(alloc, to, entry),
     }
 }

@@ -1,16 +1,14 @@
 //! Reads cases, one a line, and prints each with its answer. In a text `\n` is a line feed.
 //!
-//! - `extension N T`, `parameter N T`, `config N T`: the entry that the text T gives in the row of
+//! - `KIND N T`, of each of the six kinds: the entry that the text T gives in the row of
 //!   the name N, or the rule that it breaks with the lines that show it.
 //! - `constraints E .., P .. ; T`: the constraints of the configuration that the text gives in a
 //!   space of these extensions and parameters.
 //! - `alphabet K N`: whether a name is one of a kind.
 #![tactic(auto)]
 
-ghost use Rattle.std.specs.Prelude.{IsTrue};
-ghost use Rattle.udb_entry.specs.First.{is_read_kind};
-
 mod entries;
+mod programs;
 mod space;
 
 use case_text::text_of;
@@ -56,18 +54,14 @@ fn told_entry(alloc: Global, entry: &Entry) -> Result<String, NoMemory> {
     Ok(told)
 }
 
-fn row_answer(alloc: Global, row: &Row) -> Result<String, NoMemory>
-    requires { IsTrue (is_read_kind row.now.kind) }
-{
+fn row_answer(alloc: Global, row: &Row) -> Result<String, NoMemory> {
     match read_entry(alloc, row) {
         Ok(entry) => told_entry(alloc, &entry),
         Err(fault) => fault_text(alloc, &fault),
     }
 }
 
-fn entry_answer(alloc: Global, kind: Kind, rest: &str) -> Result<String, NoMemory>
-    requires { IsTrue (is_read_kind kind) }
-{
+fn entry_answer(alloc: Global, kind: Kind, rest: &str) -> Result<String, NoMemory> {
     let (name, escaped) = rest.split_once(' ').unwrap_or((rest, ""));
     let name = Name::of(alloc, name)?;
     match entry_text(alloc, escaped)? {
@@ -102,9 +96,7 @@ fn told_constraints(alloc: Global, names: &str, entry: &Entry) -> Result<String,
     }
 }
 
-fn constraints_of(alloc: Global, names: &str, row: &Row) -> Result<String, NoMemory>
-    requires { IsTrue (is_read_kind row.now.kind) }
-{
+fn constraints_of(alloc: Global, names: &str, row: &Row) -> Result<String, NoMemory> {
     match read_entry(alloc, row) {
         Ok(entry) => told_constraints(alloc, names, &entry),
         Err(fault) => fault_text(alloc, &fault),
@@ -150,6 +142,9 @@ fn answer(alloc: Global, line: &str) -> Result<String, NoMemory> {
     match word {
         "extension" => entry_answer(alloc, Kind::Extension, rest),
         "parameter" => entry_answer(alloc, Kind::Parameter, rest),
+        "instruction" => entry_answer(alloc, Kind::Instruction, rest),
+        "csr" => entry_answer(alloc, Kind::Csr, rest),
+        "functions" => entry_answer(alloc, Kind::Functions, rest),
         "config" => entry_answer(alloc, Kind::Config, rest),
         "constraints" => constraints_answer(alloc, rest),
         "alphabet" => alphabet_answer(rest).to_string(alloc),

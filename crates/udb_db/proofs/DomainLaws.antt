@@ -13,11 +13,12 @@ use Rattle.udb_spec.specs.Conditions.{same_bytes}
 use Rattle.udb_spec.specs.Lawful.{IsLawfulDomain}
 use Rattle.udb_lawful.proofs.Lists.{numbers-at, words-at}
 use Rattle.udb_entry.specs.declared.answers.Entry.{Entry}
-use Rattle.udb_entry.specs.declared.answers.Entry.TheVariants.{Extension, Param, Config}
+use Rattle.udb_entry.specs.declared.answers.Entry.TheVariants.{Extension, Param, Instruction, Csr, Functions, Config}
 use Rattle.udb_entry.specs.Entries.{domain_at, entry_of}
-use Rattle.udb_entry.specs.Rules.{Lines, name_rule, alphabet_rule, version_rule, domain_rule, is_domain}
-use Rattle.udb_entry.specs.First.{first_of, rules_of, Gives}
-use Rattle.udb_db.proofs.VersionLaws.{kept_first}
+use Rattle.udb_entry.specs.Rules.{Lines, domain_rule, is_domain}
+use Rattle.udb_entry.specs.First.{kind_breach, Gives}
+use Rattle.db_spec.proofs.EntryLaws.{both_kept}
+use Rattle.udb_db.proofs.VersionLaws.{kind_kept}
 
 -- a listed domain has a value
 abbrev pub HasSome : Domain → Type 0
@@ -39,25 +40,21 @@ chosen : (b : Bool) → (if b then None else Some []) ≡ (let n : Option Lines 
 chosen true h = refl
 chosen false h = absurd (cc)
 
-domain_kept : (row : Row) (t : Tree) → first_of (rules_of row t) ≡ None → domain_rule row.kind t ≡ None
-domain_kept row t h =
-    let a = kept_first 3 (name_rule row.name t) _ h in
-    let b = kept_first 4 (alphabet_rule row.kind t) _ a.1 in
-    let d = kept_first 5 (version_rule row.kind t) _ b.1 in
-    (kept_first 6 (domain_rule row.kind t) _ d.1).0
-
 abbrev pub HasLawfulDomain : Entry → Type 0
 HasLawfulDomain (Extension x) = Unit {0}
 HasLawfulDomain (Param x) = HasSome x.domain → IsLawfulDomain x.domain
+HasLawfulDomain (Instruction x) = Unit {0}
+HasLawfulDomain (Csr x) = Unit {0}
+HasLawfulDomain (Functions x) = Unit {0}
 HasLawfulDomain (Config x) = Unit {0}
 
-of_kind : (k : Kind) (t : Tree) → domain_rule k t ≡ None → HasLawfulDomain (entry_of k t)
+of_kind : (k : Kind) (t : Tree) → kind_breach k t ≡ None → HasLawfulDomain (entry_of k t)
 of_kind kind.Extension t h = tt
-of_kind kind.Parameter t h = λ some. domain_by (domain_at t (codes "schema")) (chosen (is_domain (domain_at t (codes "schema"))) h) some
+of_kind kind.Parameter t h = λ some. domain_by (domain_at t (codes "schema")) (chosen (is_domain (domain_at t (codes "schema"))) (both_kept 6 (domain_rule t) _ h).0) some
 of_kind kind.Instruction t h = tt
 of_kind kind.Csr t h = tt
 of_kind kind.Functions t h = tt
 of_kind kind.Config t h = tt
 
 pub domains_are_lawful : (row : Row) (e : Entry) → Gives row e → HasLawfulDomain e
-domains_are_lawful row e g = subst HasLawfulDomain (sym g.is) (of_kind row.kind g.tree (domain_kept row g.tree g.unbroken))
+domains_are_lawful row e g = subst HasLawfulDomain (sym g.is) (of_kind row.kind g.tree (kind_kept row g.tree g.unbroken))

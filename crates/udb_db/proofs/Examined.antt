@@ -13,7 +13,8 @@ use Rattle.udb_tables.proofs.OrderLemmas.{kind_place-is, stands_before, one_plac
 use Rattle.udb_entry.specs.declared.answers.Entry.{Entry}
 use Rattle.udb_entry.specs.declared.answers.Breach.{Breach}
 use Rattle.udb_entry.specs.Rules.{Lines}
-use Rattle.udb_entry.specs.First.{breach, FirstBroken, Gives, is_read_kind}
+use Rattle.udb_entry.specs.First.{breach, FirstBroken, Gives}
+use Rattle.db_spec.specs.Kinds.{is_read_kind}
 use Rattle.db_spec.specs.Rules.{Rule, rule_number, pass_of, names_are_known, some_full, has_completion}
 use Rattle.db_spec.specs.Sites.{Site, entry, database, site_lt, same_site, is_before, is_earlier}
 use Rattle.db_spec.specs.Entries.{kind_of, name_of, space_of, unconfigured, part_of}
@@ -25,7 +26,7 @@ use Rattle.db_spec.proofs.LateLaws.{LateBreach, of_names, of_full, of_config, br
 use Rattle.db_spec.specs.declared.broken.Broken.{Broken}
 use Rattle.udb_base.specs.declared.refutations.Partial.{Partial}
 use Rattle.udb_base.specs.declared.kinds.Kind.TheVariants as kind
-use Rattle.udb_entry.specs.declared.answers.Entry.TheVariants.{Extension, Param, Config}
+use Rattle.udb_entry.specs.declared.answers.Entry.TheVariants.{Extension, Param, Instruction, Csr, Functions, Config}
 use Rattle.udb_db.specs.Databases.{IsDraft, HasKey, IsFound, FindsEntry, IsPartOf, FindsConfig}
 use Rattle.udb_db.proofs.EarlyRules.{early_number}
 use Rattle.udb_db.specs.declared.examining.Halt.{Halt}
@@ -77,47 +78,50 @@ same_place rows o k n p place row lt is h = let key = key_of k row.kind n row.na
 
 -- ---- the texts
 
-row_kept : (rows : List Row) (es : List Entry) (r : Rule) (l : Lines) (site : Site) → Give rows es → AtRow rows site (λ row. RowBreach row r l) → ⊥
-row_kept rows es r l database g h = h
-row_kept rows es r l (entry k n) g h =
+read_kind : (rows : List Row) → HasReadKinds rows → (row : Row) → Contains rows row → IsTrue (is_read_kind row.kind)
+read_kind rows kinds row h = subst (λ (y : Row). IsTrue (is_read_kind y.kind)) h.2 (kinds h.0 row h.1)
+
+row_kept : (rows : List Row) (es : List Entry) → HasReadKinds rows → (r : Rule) (l : Lines) (site : Site) → Give rows es → AtRow rows site (λ row. RowBreach row r l) → ⊥
+row_kept rows es kinds r l database g h = h
+row_kept rows es kinds r l (entry k n) g h =
     let at = gives_at rows es h.1.among.0 g h.1.among.1 in
     let same : at.row ≡ h.0 = at.row_is ∙ (get_or_default rows h.1.among.0 at.row h.0 h.1.among.1 ∙ h.1.among.2) in
-    gives_keeps h.0 at.entry r l (subst (λ x. Gives x at.entry) same at.gives) h.2
+    gives_keeps h.0 at.entry r l (read_kind rows kinds h.0 h.1.among) (subst (λ x. Gives x at.entry) same at.gives) h.2
 
-pub texts_kept : (rows : List Row) (es : List Entry) (site : Site) (r : Rule) (l : Lines) → Give rows es → Breaks rows site r l → pass_of r ≡ 1 → ⊥
-texts_kept rows es site r l g h p = row_kept rows es r l site g (row_breach rows site r l p h)
+pub texts_kept : (rows : List Row) (es : List Entry) → HasReadKinds rows → (site : Site) (r : Rule) (l : Lines) → Give rows es → Breaks rows site r l → pass_of r ≡ 1 → ⊥
+texts_kept rows es kinds site r l g h p = row_kept rows es kinds r l site g (row_breach rows site r l p h)
 
-row_earlier : (rows : List Row) → IsInOrder rows → (place : ℕ) (row : Row) (es : List Entry) → place < length rows → row ≡ get_or rows place row → Give (take place rows) es → (k : Kind) (n : List ℕ) (other : Row) (at : IsRowAt rows k n other) (r : Rule) (l : Lines) → RowBreach other r l → site_lt (entry k n) (entry row.kind row.name) ≡ true → ⊥
-row_earlier rows o place row es lt is g k n other at r l x h =
+row_earlier : (rows : List Row) → IsInOrder rows → HasReadKinds rows → (place : ℕ) (row : Row) (es : List Entry) → place < length rows → row ≡ get_or rows place row → Give (take place rows) es → (k : Kind) (n : List ℕ) (other : Row) (at : IsRowAt rows k n other) (r : Rule) (l : Lines) → RowBreach other r l → site_lt (entry k n) (entry row.kind row.name) ≡ true → ⊥
+row_earlier rows o kinds place row es lt is g k n other at r l x h =
     let j = at.among.0 in
     let less : j < place = earlier_place rows o k n (placed_row rows k n other at) place row lt is h in
     let long : length (take place rows) ≡ place = length-take-le place rows (omega arith) in
     let gives = gives_at (take place rows) es j g (omega (arith, less, long)) in
     let same : gives.row ≡ other = gives.row_is ∙ (get_or-take place rows j gives.row less ∙ (get_or_default rows j gives.row other at.among.1 ∙ at.among.2)) in
-    gives_keeps other gives.entry r l (subst (λ y. Gives y gives.entry) same gives.gives) x
+    gives_keeps other gives.entry r l (read_kind rows kinds other at.among) (subst (λ y. Gives y gives.entry) same gives.gives) x
 
-row_same : (rows : List Row) → IsInOrder rows → (place : ℕ) (row : Row) (b : Breach) → place < length rows → row ≡ get_or rows place row → FirstBroken row b → (k : Kind) (n : List ℕ) (other : Row) (at : IsRowAt rows k n other) (r : Rule) (l : Lines) → RowBreach other r l → same_site (entry k n) (entry row.kind row.name) ≡ true → rule_number r < b.rule → ⊥
-row_same rows o place row b lt is f k n other at r l x h less =
+row_same : (rows : List Row) → IsInOrder rows → HasReadKinds rows → (place : ℕ) (row : Row) (b : Breach) → place < length rows → row ≡ get_or rows place row → FirstBroken row b → (k : Kind) (n : List ℕ) (other : Row) (at : IsRowAt rows k n other) (r : Rule) (l : Lines) → RowBreach other r l → same_site (entry k n) (entry row.kind row.name) ≡ true → rule_number r < b.rule → ⊥
+row_same rows o kinds place row b lt is f k n other at r l x h less =
     let e : at.among.0 ≡ place = same_place rows o k n (placed_row rows k n other at) place row lt is h in
     let same : other ≡ row = sym at.among.2 ∙ (ap (λ i. get_or rows i other) e ∙ (get_or_default rows place other row lt ∙ sym is)) in
-    first_least row b r l f (subst (λ y. RowBreach y r l) same x) less
+    first_least row b r l (read_kind rows kinds row (place, lt, sym is)) f (subst (λ y. RowBreach y r l) same x) less
 
-row_before : (rows : List Row) → IsInOrder rows → (place : ℕ) (row : Row) (b : Breach) (es : List Entry) → place < length rows → row ≡ get_or rows place row → FirstBroken row b → Give (take place rows) es → (rule : Rule) → rule_number rule ≡ b.rule → (s : Site) (r : Rule) (l : Lines) → AtRow rows s (λ y. RowBreach y r l) → is_before s r (entry row.kind row.name) rule ≡ true → ⊥
-row_before rows o place row b es lt is f g rule num database r l h e = h
-row_before rows o place row b es lt is f g rule num (entry k n) r l h e =
+row_before : (rows : List Row) → IsInOrder rows → HasReadKinds rows → (place : ℕ) (row : Row) (b : Breach) (es : List Entry) → place < length rows → row ≡ get_or rows place row → FirstBroken row b → Give (take place rows) es → (rule : Rule) → rule_number rule ≡ b.rule → (s : Site) (r : Rule) (l : Lines) → AtRow rows s (λ y. RowBreach y r l) → is_before s r (entry row.kind row.name) rule ≡ true → ⊥
+row_before rows o kinds place row b es lt is f g rule num database r l h e = h
+row_before rows o kinds place row b es lt is f g rule num (entry k n) r l h e =
     elim (before (entry k n) r (entry row.kind row.name) rule e) [
-      | inl x ↦ row_earlier rows o place row es lt is g k n h.0 h.1 r l h.2 x
-      | inr x ↦ row_same rows o place row b lt is f k n h.0 h.1 r l h.2 x.0 (subst (λ m. rule_number r < m) num (lt_of (rule_number r) (rule_number rule) x.1))
+      | inl x ↦ row_earlier rows o kinds place row es lt is g k n h.0 h.1 r l h.2 x
+      | inr x ↦ row_same rows o kinds place row b lt is f k n h.0 h.1 r l h.2 x.0 (subst (λ m. rule_number r < m) num (lt_of (rule_number r) (rule_number rule) x.1))
     ]
 
-row_clash : (rows : List Row) → IsInOrder rows → (place : ℕ) (row : Row) (b : Breach) (es : List Entry) → place < length rows → row ≡ get_or rows place row → FirstBroken row b → Give (take place rows) es → (rule : Rule) → rule_number rule ≡ b.rule → pass_of rule ≡ 1 → (s : Site) (r : Rule) (l : Lines) → Breaks rows s r l → (pass_of r < pass_of rule) ⊎ ((pass_of r ≡ pass_of rule) × (is_before s r (entry row.kind row.name) rule ≡ true)) → ⊥
-row_clash rows o place row b es lt is f g rule num pass s r l h (inl less) = absurd (omega (arith, first_pass r))
-row_clash rows o place row b es lt is f g rule num pass s r l h (inr x) = row_before rows o place row b es lt is f g rule num s r l (row_breach rows s r l (x.0 ∙ pass) h) x.1
+row_clash : (rows : List Row) → IsInOrder rows → HasReadKinds rows → (place : ℕ) (row : Row) (b : Breach) (es : List Entry) → place < length rows → row ≡ get_or rows place row → FirstBroken row b → Give (take place rows) es → (rule : Rule) → rule_number rule ≡ b.rule → pass_of rule ≡ 1 → (s : Site) (r : Rule) (l : Lines) → Breaks rows s r l → (pass_of r < pass_of rule) ⊎ ((pass_of r ≡ pass_of rule) × (is_before s r (entry row.kind row.name) rule ≡ true)) → ⊥
+row_clash rows o kinds place row b es lt is f g rule num pass s r l h (inl less) = absurd (omega (arith, first_pass r))
+row_clash rows o kinds place row b es lt is f g rule num pass s r l h (inr x) = row_before rows o kinds place row b es lt is f g rule num s r l (row_breach rows s r l (x.0 ∙ pass) h) x.1
 
-pub row_first : (rows : List Row) → IsInOrder rows → (place : ℕ) (row : Row) (b : Breach) (es : List Entry) → place < length rows → row ≡ get_or rows place row → FirstBroken row b → Give (take place rows) es → (x : RowRule rows row b) → First rows (entry row.kind row.name) x.rule b.shows
-row_first rows o place row b es lt is f g x = record {
+pub row_first : (rows : List Row) → IsInOrder rows → HasReadKinds rows → (place : ℕ) (row : Row) (b : Breach) (es : List Entry) → place < length rows → row ≡ get_or rows place row → FirstBroken row b → Give (take place rows) es → (x : RowRule rows row b) → First rows (entry row.kind row.name) x.rule b.shows
+row_first rows o kinds place row b es lt is f g x = record {
   breaks = x.breaks;
-  least = λ s r l h. not_true (is_earlier s r (entry row.kind row.name) x.rule) (λ e. row_clash rows o place row b es lt is f g x.rule x.number x.pass s r l h (earlier s r (entry row.kind row.name) x.rule e));
+  least = λ s r l h. not_true (is_earlier s r (entry row.kind row.name) x.rule) (λ e. row_clash rows o kinds place row b es lt is f g x.rule x.number x.pass s r l h (earlier s r (entry row.kind row.name) x.rule e));
 }
 
 -- ---- the read entries
@@ -135,9 +139,8 @@ found_by rows es kinds g k n P e i lt is kind name p =
     let in_rows : i < length rows = omega (arith, give_long rows es g) in
     let x = gives_at rows es i g in_rows in
     let same : x.entry ≡ e = x.entry_is ∙ (get_or_default es i x.entry e lt ∙ is) in
-    let read : IsTrue (is_read_kind x.row.kind) = subst (λ y. IsTrue (is_read_kind y.kind)) (sym x.row_is) (kinds i x.row in_rows) in
     record {
-      at = record { place = i; row = x.row; within = in_rows; here = x.row_is; of_kind = sym (gives_kind x.row x.entry read x.gives) ∙ (ap kind_of same ∙ kind); of_name = sym (gives_name x.row x.entry read x.gives) ∙ (ap name_of same ∙ name) };
+      at = record { place = i; row = x.row; within = in_rows; here = x.row_is; of_kind = sym (gives_kind x.row x.entry x.gives) ∙ (ap kind_of same ∙ kind); of_name = sym (gives_name x.row x.entry x.gives) ∙ (ap name_of same ∙ name) };
       one = e;
       within = lt;
       here = sym is;
@@ -156,8 +159,7 @@ entry_site rows es kinds g place e row lt is here P p =
     let x = gives_at rows es place g in_rows in
     let same : x.entry ≡ e = x.entry_is ∙ (get_or_default es place x.entry e lt ∙ sym is) in
     let same_row : x.row ≡ row = x.row_is ∙ (get_or_default rows place x.row row in_rows ∙ sym here) in
-    let read : IsTrue (is_read_kind x.row.kind) = subst (λ y. IsTrue (is_read_kind y.kind)) (sym x.row_is) (kinds place x.row in_rows) in
-    (es, e, record { give = g; among = (place, lt, sym is); of_kind = sym (ap kind_of same) ∙ (gives_kind x.row x.entry read x.gives ∙ ap (λ (y : Row). y.kind) same_row); of_name = sym (ap name_of same) ∙ (gives_name x.row x.entry read x.gives ∙ ap (λ (y : Row). y.name) same_row) }, p)
+    (es, e, record { give = g; among = (place, lt, sym is); of_kind = sym (ap kind_of same) ∙ (gives_kind x.row x.entry x.gives ∙ ap (λ (y : Row). y.kind) same_row); of_name = sym (ap name_of same) ∙ (gives_name x.row x.entry x.gives ∙ ap (λ (y : Row). y.name) same_row) }, p)
 
 at_front : (P : Entry → Type 0) (es : List Entry) (place j : ℕ) (e : Entry) → All P (take place es) → j < place → place ≤ length es → e ≡ get_or es j e → P e
 at_front P es place j e all lt le is =
@@ -212,7 +214,7 @@ names_late rows es o kinds g place row lt here all s r l (of_config is h) (inl x
 names_late rows es o kinds g place row lt here all s r l (of_config is h) (inr x) = absurd (omega (arith, x.0, ap pass_of is))
 
 names_clash : (rows : List Row) (es : List Entry) → IsInOrder rows → HasReadKinds rows → Give rows es → (place : ℕ) (row : Row) → place < length es → row ≡ get_or rows place row → All (KnowsNames (space_of es)) (take place es) → (s : Site) (r : Rule) (l : Lines) → Breaks rows s r l → (pass_of r ≡ 1) ⊎ LateBreach rows s r l → (pass_of r < 2) ⊎ ((pass_of r ≡ 2) × (is_before s r (entry row.kind row.name) names_are_known ≡ true)) → ⊥
-names_clash rows es o kinds g place row lt here all s r l h (inl p) x = texts_kept rows es s r l g h p
+names_clash rows es o kinds g place row lt here all s r l h (inl p) x = texts_kept rows es kinds s r l g h p
 names_clash rows es o kinds g place row lt here all s r l h (inr late) x = names_late rows es o kinds g place row lt here all s r l late x
 
 pub names_first : (rows : List Row) (es : List Entry) → IsInOrder rows → HasReadKinds rows → Give rows es → (place : ℕ) (row : Row) (shows : Lines) → row ≡ get_or rows place row → IsFirstAt (KnowsNames (space_of es)) (λ e. HasUnknownName (space_of es) e shows) es place → First rows (entry row.kind row.name) names_are_known shows
@@ -238,7 +240,7 @@ full_late rows es kinds g all s r l (of_config is h) (inl x) = absurd (omega (ar
 full_late rows es kinds g all s r l (of_config is h) (inr x) = absurd (omega (arith, full_site s r x.1, ap rule_number is))
 
 full_clash : (rows : List Row) (es : List Entry) → HasReadKinds rows → Give rows es → All (KnowsNames (space_of es)) es → (s : Site) (r : Rule) (l : Lines) → Breaks rows s r l → (pass_of r ≡ 1) ⊎ LateBreach rows s r l → (pass_of r < 5) ⊎ ((pass_of r ≡ 5) × (is_before s r database some_full ≡ true)) → ⊥
-full_clash rows es kinds g all s r l h (inl p) x = texts_kept rows es s r l g h p
+full_clash rows es kinds g all s r l h (inl p) x = texts_kept rows es kinds s r l g h p
 full_clash rows es kinds g all s r l h (inr late) x = full_late rows es kinds g all s r l late x
 
 pub full_first : (rows : List Row) (es : List Entry) → HasReadKinds rows → Give rows es → All (KnowsNames (space_of es)) es → (shows : Lines) → HasNoCompletion (space_of es) unconfigured shows → First rows database some_full shows
@@ -263,7 +265,7 @@ configs_late rows es o kinds g all full place row lt here done s r l (of_config 
 configs_late rows es o kinds g all full place row lt here done s r l (of_config is h) (inr x) = entry_earlier rows es o kinds g place row lt here (Lacking l) (completed_front es place l done) s r has_completion (ap rule_number is) h x.1
 
 configs_clash : (rows : List Row) (es : List Entry) → IsInOrder rows → HasReadKinds rows → Give rows es → All (KnowsNames (space_of es)) es → HasCompletion (space_of es) unconfigured → (place : ℕ) (row : Row) → place < length es → row ≡ get_or rows place row → All (IsCompleted (space_of es)) (take place es) → (s : Site) (r : Rule) (l : Lines) → Breaks rows s r l → (pass_of r ≡ 1) ⊎ LateBreach rows s r l → (pass_of r < 5) ⊎ ((pass_of r ≡ 5) × (is_before s r (entry row.kind row.name) has_completion ≡ true)) → ⊥
-configs_clash rows es o kinds g all full place row lt here done s r l h (inl p) x = texts_kept rows es s r l g h p
+configs_clash rows es o kinds g all full place row lt here done s r l h (inl p) x = texts_kept rows es kinds s r l g h p
 configs_clash rows es o kinds g all full place row lt here done s r l h (inr late) x = configs_late rows es o kinds g all full place row lt here done s r l late x
 
 pub configs_first : (rows : List Row) (es : List Entry) → IsInOrder rows → HasReadKinds rows → Give rows es → All (KnowsNames (space_of es)) es → HasCompletion (space_of es) unconfigured → (place : ℕ) (row : Row) (shows : Lines) → row ≡ get_or rows place row → IsFirstAt (IsCompleted (space_of es)) (λ e. LacksCompletion (space_of es) e shows) es place → First rows (entry row.kind row.name) has_completion shows
@@ -280,7 +282,7 @@ sound_late rows es kinds g all full done s r l (of_full is h) = no_full rows s l
 sound_late rows es kinds g all full done s r l (of_config is h) = entry_all rows es kinds g (Lacking l) (completed_all es l done) s h
 
 sound_by : (rows : List Row) (es : List Entry) → HasReadKinds rows → Give rows es → All (KnowsNames (space_of es)) es → HasCompletion (space_of es) unconfigured → All (IsCompleted (space_of es)) es → (s : Site) (r : Rule) (l : Lines) → Breaks rows s r l → (pass_of r ≡ 1) ⊎ LateBreach rows s r l → ⊥
-sound_by rows es kinds g all full done s r l h (inl p) = texts_kept rows es s r l g h p
+sound_by rows es kinds g all full done s r l h (inl p) = texts_kept rows es kinds s r l g h p
 sound_by rows es kinds g all full done s r l h (inr late) = sound_late rows es kinds g all full done s r l late
 
 pub sound : (rows : List Row) (es : List Entry) → HasReadKinds rows → Give rows es → All (KnowsNames (space_of es)) es → HasCompletion (space_of es) unconfigured → All (IsCompleted (space_of es)) es → Sound rows
@@ -296,16 +298,16 @@ told_at row other n m shows b e f is =
     let P : Row → ℕ → Type 0 = λ x k. b ≡ record { kind = Some x.kind; name = Some x.name; rule = k; shows = shows } in
     subst (λ k. P other k) f (subst (λ x. P x n) e is)
 
-halt_row : (rows : List Row) → IsInOrder rows → (place rule : ℕ) (shows : Lines) (h : Halt) → IsBrokenAt rows place rule shows → TellsAt rows place rule shows h → IsHalt rows h
-halt_row rows o place rule shows halt.Memory x t = tt
-halt_row rows o place rule shows (halt.Broken b) x t =
+halt_row : (rows : List Row) → IsInOrder rows → HasReadKinds rows → (place rule : ℕ) (shows : Lines) (h : Halt) → IsBrokenAt rows place rule shows → TellsAt rows place rule shows h → IsHalt rows h
+halt_row rows o kinds place rule shows halt.Memory x t = tt
+halt_row rows o kinds place rule shows (halt.Broken b) x t =
     let among : Contains rows x.broken = (place, x.within, sym x.here) in
-    let r = first_breaks rows x.broken (breach rule shows) among x.first in
+    let r = first_breaks rows x.broken (breach rule shows) (read_kind rows kinds x.broken among) among x.first in
     record {
       site = entry x.broken.kind x.broken.name;
       rule = r.rule;
       shows = shows;
-      first = row_first rows o place x.broken (breach rule shows) x.before.0 x.within x.here x.first x.before.1 r;
+      first = row_first rows o kinds place x.broken (breach rule shows) x.before.0 x.within x.here x.first x.before.1 r;
       is = told_at t.row x.broken rule (rule_number r.rule) shows b (one_row rows place t.row x.broken x.within t.here x.here) (sym r.number) t.is;
     }
 
@@ -320,10 +322,11 @@ early_told : (rows : List Row) (place rule : ℕ) (shows : Lines) (h : Halt) →
 early_told rows place rule shows halt.Memory le t x = tt
 early_told rows place rule shows (halt.Broken b) le t x = (x, subst (λ n. n ≤ 12) (sym (ap (λ (y : Broken). y.rule) t.is)) le)
 
-pub early_row : (rows : List Row) → IsInOrder rows → (place rule : ℕ) (shows : Lines) (h : Halt) → IsBrokenAt rows place rule shows → TellsAt rows place rule shows h → IsEarlyHalt rows h
-early_row rows o place rule shows h x t =
-    let r = first_breaks rows x.broken (breach rule shows) (place, x.within, sym x.here) x.first in
-    early_told rows place rule shows h (subst (λ n. n ≤ 12) r.number (early_number r.rule r.pass)) t (halt_row rows o place rule shows h x t)
+pub early_row : (rows : List Row) → IsInOrder rows → HasReadKinds rows → (place rule : ℕ) (shows : Lines) (h : Halt) → IsBrokenAt rows place rule shows → TellsAt rows place rule shows h → IsEarlyHalt rows h
+early_row rows o kinds place rule shows h x t =
+    let among : Contains rows x.broken = (place, x.within, sym x.here) in
+    let r = first_breaks rows x.broken (breach rule shows) (read_kind rows kinds x.broken among) among x.first in
+    early_told rows place rule shows h (subst (λ n. n ≤ 12) r.number (early_number r.rule r.pass)) t (halt_row rows o kinds place rule shows h x t)
 
 pub early_names : (rows : List Row) (es : List Entry) (space : Space) → IsInOrder rows → HasReadKinds rows → Give rows es → space ≡ space_of es → (place : ℕ) (shows : Lines) (h : Halt) → IsFirstAt (KnowsNames space) (λ e. HasUnknownName space e shows) es place → TellsAt rows place 10 shows h → IsEarlyHalt rows h
 early_names rows es space o kinds g is place shows h x t = early_told rows place 10 shows h (omega arith) t (halt_names rows es space o kinds g is place shows h x t)
@@ -360,7 +363,7 @@ kept_late rows es kinds g all s r l le (of_full is h) = absurd (omega (arith, le
 kept_late rows es kinds g all s r l le (of_config is h) = absurd (omega (arith, le, ap rule_number is))
 
 kept_way : (rows : List Row) (es : List Entry) → HasReadKinds rows → Give rows es → All (KnowsNames (space_of es)) es → (s : Site) (r : Rule) (l : Lines) → rule_number r ≤ 12 → Breaks rows s r l → (pass_of r ≡ 1) ⊎ LateBreach rows s r l → ⊥
-kept_way rows es kinds g all s r l le h (inl p) = texts_kept rows es s r l g h p
+kept_way rows es kinds g all s r l le h (inl p) = texts_kept rows es kinds s r l g h p
 kept_way rows es kinds g all s r l le h (inr late) = kept_late rows es kinds g all s r l le late
 
 pub kept_at : (rows : List Row) (es : List Entry) (space : Space) → HasReadKinds rows → Give rows es → space ≡ space_of es → All (KnowsNames space) es → KeepsUpTo 12 rows
@@ -384,8 +387,7 @@ found_none : (rows : List Row) (es : List Entry) → HasReadKinds rows → Give 
 found_none rows es kinds g k n none row at =
     let x = gives_at rows es at.among.0 g at.among.1 in
     let same : x.row ≡ row = x.row_is ∙ (get_or_default rows at.among.0 x.row row at.among.1 ∙ at.among.2) in
-    let read : IsTrue (is_read_kind x.row.kind) = subst (λ y. IsTrue (is_read_kind y.kind)) (sym x.row_is) (kinds at.among.0 x.row at.among.1) in
-    let key : HasKey k n x.entry = (gives_kind x.row x.entry read x.gives ∙ (ap (λ (y : Row). y.kind) same ∙ at.of_kind), gives_name x.row x.entry read x.gives ∙ (ap (λ (y : Row). y.name) same ∙ at.of_name)) in
+    let key : HasKey k n x.entry = (gives_kind x.row x.entry x.gives ∙ (ap (λ (y : Row). y.kind) same ∙ at.of_kind), gives_name x.row x.entry x.gives ∙ (ap (λ (y : Row). y.name) same ∙ at.of_name)) in
     none at.among.0 x.entry x.in_entries (subst (λ y. HasKey k n y) x.entry_is key)
 
 pub finds_entry : (rows : List Row) (es : List Entry) (space : Space) (k : Kind) (n : List ℕ) (o : Option Entry) → IsDraft rows es space → IsFound k n es o → FindsEntry rows k n o
@@ -395,6 +397,9 @@ finds_entry rows es space k n (Some e) d f = (es, record { give = d.give; among 
 config_by : (rows : List Row) (es : List Entry) (space : Space) (n : List ℕ) (e : Entry) → IsDraft rows es space → Contains es e → HasKey kind.Config n e → FindsConfig rows n (part_in space e)
 config_by rows es space n (Extension x) d among key = let k = key.0 in absurd (cc)
 config_by rows es space n (Param x) d among key = let k = key.0 in absurd (cc)
+config_by rows es space n (Instruction x) d among key = let k = key.0 in absurd (cc)
+config_by rows es space n (Csr x) d among key = let k = key.0 in absurd (cc)
+config_by rows es space n (Functions x) d among key = let k = key.0 in absurd (cc)
 config_by rows es space n (Config x) d among key = (es, x, record { give = d.give; among = among; of_kind = refl; of_name = key.1 }, ap (λ s. part_of s x) d.space_is)
 
 pub finds_config : (rows : List Row) (es : List Entry) (space : Space) (n : List ℕ) (o : Option Entry) (part : Option Partial) → IsDraft rows es space → IsFound kind.Config n es o → IsPartOf space o part → FindsConfig rows n part

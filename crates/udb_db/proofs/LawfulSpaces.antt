@@ -13,8 +13,8 @@ use Rattle.udb_tables.specs.Order.{IsInOrder}
 use Rattle.entry_tree.specs.declared.ParamEntry.{ParamEntry}
 use Rattle.manual_spec.specs.Entries.{param_space}
 use Rattle.udb_entry.specs.declared.answers.Entry.{Entry}
-use Rattle.udb_entry.specs.declared.answers.Entry.TheVariants.{Extension, Param, Config}
-use Rattle.udb_entry.specs.Schemas.{schema_of}
+use Rattle.udb_entry.specs.declared.answers.Entry.TheVariants.{Extension, Param, Instruction, Csr, Functions, Config}
+use Rattle.entry_form.specs.Forms.{schema_of}
 use Rattle.udb_entry.specs.Entries.{entry_of}
 use Rattle.udb_entry.specs.First.{Gives}
 use Rattle.db_spec.specs.Entries.{space_of, width_name}
@@ -34,6 +34,9 @@ use Rattle.udb_db.proofs.SpaceLaws.{IsSoundEntry, entries_rise, params_rise, law
 abbrev HasValues : Entry → Type 0
 HasValues (Extension x) = Unit {0}
 HasValues (Param x) = HasSome x.domain
+HasValues (Instruction x) = Unit {0}
+HasValues (Csr x) = Unit {0}
+HasValues (Functions x) = Unit {0}
 HasValues (Config x) = Unit {0}
 
 values_of : (k : Kind) (t : Tree) → meets (schema_of k) t ≡ true → HasValues (entry_of k t)
@@ -50,6 +53,9 @@ has_values row e g = subst HasValues (sym g.is) (values_of row.kind g.tree g.mee
 sound_by : (e : Entry) → HasRisingVersions e → HasLawfulDomain e → HasValues e → ((x : ParamEntry) → e ≡ Param x → x.name ≡ width_name → ListsWidths x.domain) → IsSoundEntry e
 sound_by (Extension x) r d v w = r
 sound_by (Param x) r d v w = (d v, w x refl)
+sound_by (Instruction x) r d v w = tt
+sound_by (Csr x) r d v w = tt
+sound_by (Functions x) r d v w = tt
 sound_by (Config x) r d v w = tt
 
 pub lawful_space : (rows : List Row) (es : List Entry) (space : Space) → IsInOrder rows → HasReadKinds rows → Give rows es → space ≡ space_of es → All (KnowsNames space) es → Lawful space

@@ -20,8 +20,7 @@ use Rattle.entry_tree.specs.declared.ExtensionEntry.{ExtensionEntry}
 use Rattle.entry_tree.specs.declared.ParamEntry.{ParamEntry}
 use Rattle.manual_spec.specs.Entries.{ext_space, param_space}
 use Rattle.udb_entry.specs.declared.answers.Entry.{Entry}
-use Rattle.udb_entry.specs.declared.answers.Entry.TheVariants.{Extension, Param, Config}
-use Rattle.udb_entry.specs.First.{is_read_kind}
+use Rattle.udb_entry.specs.declared.answers.Entry.TheVariants.{Extension, Param, Instruction, Csr, Functions, Config}
 use Rattle.db_spec.specs.Entries.{kind_of, name_of, conditions_of, space_of, width_name}
 use Rattle.db_spec.specs.Breaks.{Give, named}
 use Rattle.db_spec.specs.First.{HasReadKinds}
@@ -52,12 +51,10 @@ entries_rise rows es o kinds g i j d less lt =
     let y = gives_at rows es j g second in
     let x_is : x.entry ≡ get_or es i d = x.entry_is ∙ get_or_default es i x.entry d x.in_entries in
     let y_is : y.entry ≡ get_or es j d = y.entry_is ∙ get_or_default es j y.entry d lt in
-    let x_read : IsTrue (is_read_kind x.row.kind) = subst (λ r. IsTrue (is_read_kind r.kind)) (sym x.row_is) (kinds i x.row first) in
-    let y_read : IsTrue (is_read_kind y.row.kind) = subst (λ r. IsTrue (is_read_kind r.kind)) (sym y.row_is) (kinds j y.row second) in
     let y_here : y.row ≡ get_or rows j x.row = y.row_is ∙ get_or_default rows j y.row x.row second in
     let row : IsTrue (row_lt x.row y.row) = subst (λ r. IsTrue (row_lt x.row r)) (sym y_here) (subst (λ r. IsTrue (row_lt r (get_or rows j x.row))) (sym x.row_is) (o i j x.row less second)) in
-    let a : IsTrue (key_lt (kind_of x.entry) (name_of x.entry) y.row.kind y.row.name) = subst (λ n. IsTrue (key_lt (kind_of x.entry) n y.row.kind y.row.name)) (sym (gives_name x.row x.entry x_read x.gives)) (subst (λ k. IsTrue (key_lt k x.row.name y.row.kind y.row.name)) (sym (gives_kind x.row x.entry x_read x.gives)) row) in
-    let b : IsBefore x.entry y.entry = subst (λ n. IsTrue (key_lt (kind_of x.entry) (name_of x.entry) (kind_of y.entry) n)) (sym (gives_name y.row y.entry y_read y.gives)) (subst (λ k. IsTrue (key_lt (kind_of x.entry) (name_of x.entry) k y.row.name)) (sym (gives_kind y.row y.entry y_read y.gives)) a) in
+    let a : IsTrue (key_lt (kind_of x.entry) (name_of x.entry) y.row.kind y.row.name) = subst (λ n. IsTrue (key_lt (kind_of x.entry) n y.row.kind y.row.name)) (sym (gives_name x.row x.entry x.gives)) (subst (λ k. IsTrue (key_lt k x.row.name y.row.kind y.row.name)) (sym (gives_kind x.row x.entry x.gives)) row) in
+    let b : IsBefore x.entry y.entry = subst (λ n. IsTrue (key_lt (kind_of x.entry) (name_of x.entry) (kind_of y.entry) n)) (sym (gives_name y.row y.entry y.gives)) (subst (λ k. IsTrue (key_lt (kind_of x.entry) (name_of x.entry) k y.row.name)) (sym (gives_kind y.row y.entry y.gives)) a) in
     subst (λ e. IsBefore (get_or es i d) e) y_is (subst (λ e. IsBefore e y.entry) x_is b)
 
 -- ---- lists of what entries have
@@ -90,11 +87,17 @@ ParamBefore a b = IsTrue (name_lt a.name b.name)
 ext_after : (x : ExtensionEntry) (e : Entry) → IsBefore (Extension x) e → All (ExtBefore (ext_space x)) (ext_spaces_in e)
 ext_after x (Extension y) h = single (ExtBefore (ext_space x)) (ext_space y) h
 ext_after x (Param y) h = none (ExtBefore (ext_space x))
+ext_after x (Instruction y) h = none (ExtBefore (ext_space x))
+ext_after x (Csr y) h = none (ExtBefore (ext_space x))
+ext_after x (Functions y) h = none (ExtBefore (ext_space x))
 ext_after x (Config y) h = none (ExtBefore (ext_space x))
 
 param_after : (x : ParamEntry) (e : Entry) → IsBefore (Param x) e → All (ParamBefore (param_space x)) (param_spaces_in e)
 param_after x (Extension y) h = none (ParamBefore (param_space x))
 param_after x (Param y) h = single (ParamBefore (param_space x)) (param_space y) h
+param_after x (Instruction y) h = none (ParamBefore (param_space x))
+param_after x (Csr y) h = none (ParamBefore (param_space x))
+param_after x (Functions y) h = none (ParamBefore (param_space x))
 param_after x (Config y) h = none (ParamBefore (param_space x))
 
 pub extensions_rise : (es : List Entry) → AllPairs IsBefore es → AllPairs ExtBefore (flat_map ext_spaces_in es)
@@ -103,6 +106,9 @@ extensions_rise (Extension x ∷ es) h =
     subst (AllPairs ExtBefore) (sym (flat_map-cons ext_spaces_in (Extension x) es))
     (AllPairs-cons ExtBefore (ext_space x) (flat_map ext_spaces_in es) (all_flat (IsBefore (Extension x)) (ExtBefore (ext_space x)) ext_spaces_in (ext_after x) es (first IsBefore (Extension x) es h)) (extensions_rise es (later IsBefore (Extension x) es h)))
 extensions_rise (Param x ∷ es) h = subst (AllPairs ExtBefore) (sym (flat_map-cons ext_spaces_in (Param x) es)) (extensions_rise es (later IsBefore (Param x) es h))
+extensions_rise (Instruction x ∷ es) h = subst (AllPairs ExtBefore) (sym (flat_map-cons ext_spaces_in (Instruction x) es)) (extensions_rise es (later IsBefore (Instruction x) es h))
+extensions_rise (Csr x ∷ es) h = subst (AllPairs ExtBefore) (sym (flat_map-cons ext_spaces_in (Csr x) es)) (extensions_rise es (later IsBefore (Csr x) es h))
+extensions_rise (Functions x ∷ es) h = subst (AllPairs ExtBefore) (sym (flat_map-cons ext_spaces_in (Functions x) es)) (extensions_rise es (later IsBefore (Functions x) es h))
 extensions_rise (Config x ∷ es) h = subst (AllPairs ExtBefore) (sym (flat_map-cons ext_spaces_in (Config x) es)) (extensions_rise es (later IsBefore (Config x) es h))
 
 pub params_rise : (es : List Entry) → AllPairs IsBefore es → AllPairs ParamBefore (flat_map param_spaces_in es)
@@ -111,6 +117,9 @@ params_rise (Extension x ∷ es) h = subst (AllPairs ParamBefore) (sym (flat_map
 params_rise (Param x ∷ es) h =
     subst (AllPairs ParamBefore) (sym (flat_map-cons param_spaces_in (Param x) es))
     (AllPairs-cons ParamBefore (param_space x) (flat_map param_spaces_in es) (all_flat (IsBefore (Param x)) (ParamBefore (param_space x)) param_spaces_in (param_after x) es (first IsBefore (Param x) es h)) (params_rise es (later IsBefore (Param x) es h)))
+params_rise (Instruction x ∷ es) h = subst (AllPairs ParamBefore) (sym (flat_map-cons param_spaces_in (Instruction x) es)) (params_rise es (later IsBefore (Instruction x) es h))
+params_rise (Csr x ∷ es) h = subst (AllPairs ParamBefore) (sym (flat_map-cons param_spaces_in (Csr x) es)) (params_rise es (later IsBefore (Csr x) es h))
+params_rise (Functions x ∷ es) h = subst (AllPairs ParamBefore) (sym (flat_map-cons param_spaces_in (Functions x) es)) (params_rise es (later IsBefore (Functions x) es h))
 params_rise (Config x ∷ es) h = subst (AllPairs ParamBefore) (sym (flat_map-cons param_spaces_in (Config x) es)) (params_rise es (later IsBefore (Config x) es h))
 
 -- ---- lawful spaces
@@ -119,6 +128,9 @@ params_rise (Config x ∷ es) h = subst (AllPairs ParamBefore) (sym (flat_map-co
 abbrev pub IsSoundEntry : Entry → Type 0
 IsSoundEntry (Extension x) = AllPairs (λ a b. IsTrue (version_lt a.version b.version)) x.versions
 IsSoundEntry (Param x) = IsLawfulDomain x.domain × (x.name ≡ width_name → ListsWidths x.domain)
+IsSoundEntry (Instruction x) = Unit {0}
+IsSoundEntry (Csr x) = Unit {0}
+IsSoundEntry (Functions x) = Unit {0}
 IsSoundEntry (Config x) = Unit {0}
 
 abbrev IsKnown : Space → Entry → Type 0
@@ -127,6 +139,9 @@ IsKnown space e = KnowsNames space e × IsSoundEntry e
 ext_lawful : (space : Space) (e : Entry) → IsKnown space e → All (IsLawfulExt space) (ext_spaces_in e)
 ext_lawful space (Extension x) h = single (IsLawfulExt space) (ext_space x) (record { rising = h.1; needs = conditions_fit space (Extension x) x.needs h.0 (0, omega arith, refl) })
 ext_lawful space (Param x) h = none (IsLawfulExt space)
+ext_lawful space (Instruction x) h = none (IsLawfulExt space)
+ext_lawful space (Csr x) h = none (IsLawfulExt space)
+ext_lawful space (Functions x) h = none (IsLawfulExt space)
 ext_lawful space (Config x) h = none (IsLawfulExt space)
 
 param_lawful : (space : Space) (e : Entry) → IsKnown space e → All (IsLawfulParam space) (param_spaces_in e)
@@ -137,6 +152,9 @@ param_lawful space (Param x) h = single (IsLawfulParam space) (param_space x) (r
   defined = conditions_fit space (Param x) x.defined h.0 (0, omega arith, refl);
   needs = conditions_fit space (Param x) x.needs h.0 (1, omega arith, refl);
 })
+param_lawful space (Instruction x) h = none (IsLawfulParam space)
+param_lawful space (Csr x) h = none (IsLawfulParam space)
+param_lawful space (Functions x) h = none (IsLawfulParam space)
 param_lawful space (Config x) h = none (IsLawfulParam space)
 
 pub lawful_by : (rows : List Row) (es : List Entry) (space : Space) → IsInOrder rows → HasReadKinds rows → Give rows es → space ≡ space_of es → All (KnowsNames space) es → All IsSoundEntry es → Lawful space

@@ -30,7 +30,8 @@ use Rattle.udb_schema.proofs.WordLaws.{meets_law, clause-Type, clause-Const, cla
 use Rattle.udb_base.specs.declared.spaces.Domain.{Domain}
 use Rattle.udb_base.specs.declared.spaces.Domain.TheVariants.{Flags, Numbers, Range, Words}
 use Rattle.udb_entry.specs.Keys.{items_in, text_in, number_in, value_at, items_at, text_at, number_at}
-use Rattle.udb_entry.specs.Schemas.{Key, exactly, list_of, map_words, map_of, number_value, text_value, common, boolean_domain, listed_domain, ranged_domain, domain_schema, parameter_properties, parameter_schema}
+use Rattle.entry_form.specs.declared.tables.Table.{Table}
+use Rattle.entry_form.specs.Forms.{Key, schema, exactly, list_of, map_words, number_value, text_value, common, titled, boolean_domain, listed_domain, ranged_domain, domain_schema, parameter_rows, parameter_schema}
 use Rattle.udb_entry.specs.Entries.{number_domain, domain_of, domain_at}
 use Rattle.udb_db.proofs.DomainLaws.{HasSome}
 
@@ -135,8 +136,11 @@ map_by : (keys : List Key) (ps : List SchemaProperty) (t : Tree) (o : Option (Li
 map_by keys ps t None is h a b c = absurd (cc)
 map_by keys ps t (Some qs) is h a b c = record { pairs = qs; is = is; required = a; closed = b; properties = c }
 
+abbrev table_of : List Key → List SchemaProperty → Table
+table_of keys ps = record { keys = keys; properties = ps }
+
 -- no word but the properties names a key
-names_by : (keys : List Key) (ps : List SchemaProperty) (key : List ℕ) → named (map_words keys ps) key ≡ has_property (map property ps) key
+names_by : (keys : List Key) (ps : List SchemaProperty) (key : List ℕ) → named (map_words (table_of keys ps)) key ≡ has_property (map property ps) key
 unfolding map_words
 names_by keys ps key = rw (clause-Type (type.Map ∷ []), clause-Required keys, clause-AdditionalProperties Closed, clause-Properties ps) (or_false (has_property (map property ps) key))
 
@@ -149,10 +153,10 @@ met_closed f g e None = refl
 met_closed f g e (Some qs) = closed_by f g e qs
 
 -- what a tree is that meets the schema of a map
-map_met : (keys : List Key) (ps : List SchemaProperty) (t : Tree) → meets (map_of keys ps) t ≡ true → MapMet keys ps t
+map_met : (keys : List Key) (ps : List SchemaProperty) (t : Tree) → meets (schema (map_words (table_of keys ps))) t ≡ true → MapMet keys ps t
 unfolding map_words
 map_met keys ps t h =
-    let s = map_of keys ps in
+    let s = schema (map_words (table_of keys ps)) in
     let a = word_met s t 0 (word.Type (type.Map ∷ [])) (omega arith) refl h in
     let b = word_met s t 1 (word.Required keys) (omega arith) refl h in
     let c = word_met s t 2 (word.AdditionalProperties Closed) (omega arith) refl h in
@@ -294,7 +298,7 @@ at_key (Some x) h = h x refl
 
 -- the domain of a parameter
 pub domain_has_some : (t : Tree) → meets parameter_schema t ≡ true → HasSome (domain_at t (codes "schema"))
-unfolding parameter_schema common parameter_properties
+unfolding parameter_schema titled common parameter_rows
 domain_has_some t h =
     let m = map_met _ _ t h in
     at_key (value_at t (codes "schema")) (λ x is. domain_some x (property_met _ _ t x 5 (record { key = codes "schema"; schema = domain_schema }) m (omega arith) refl is))

@@ -13,11 +13,12 @@ use Rattle.udb_base.specs.declared.versions.Listed.{Listed}
 use Rattle.udb_spec.specs.Versions.{version_lt}
 use Rattle.udb_lawful.proofs.Rising.{version-trans}
 use Rattle.udb_entry.specs.declared.answers.Entry.{Entry}
-use Rattle.udb_entry.specs.declared.answers.Entry.TheVariants.{Extension, Param, Config}
+use Rattle.udb_entry.specs.declared.answers.Entry.TheVariants.{Extension, Param, Instruction, Csr, Functions, Config}
 use Rattle.udb_entry.specs.Keys.{items_at}
 use Rattle.udb_entry.specs.Entries.{version_text, version_in, no_version, listed_of, entry_of}
-use Rattle.udb_entry.specs.Rules.{Lines, one_line, name_rule, alphabet_rule, version_rule, follows, first_wrong}
-use Rattle.udb_entry.specs.First.{first_of, rules_of, Gives}
+use Rattle.udb_entry.specs.Rules.{one_line, name_rule, alphabet_rule, version_rule, follows, first_wrong}
+use Rattle.udb_entry.specs.First.{kind_breach, first_breach, Gives}
+use Rattle.db_spec.proofs.EntryLaws.{both_kept}
 
 abbrev IsBelow : Listed → Listed → Type 0
 IsBelow a b = IsTrue (version_lt a.version b.version)
@@ -70,27 +71,26 @@ start (x ∷ xs) h = start_by x xs (version_in x) refl h
 
 -- ---- of a row
 
-pub kept_first : (n : ℕ) (o : Option Lines) (rs : List (ℕ × Option Lines)) → first_of ((n, o) ∷ rs) ≡ None → (o ≡ None) × (first_of rs ≡ None)
-kept_first n None rs h = (refl, h)
-kept_first n (Some l) rs h = absurd (cc)
-
 unmapped : (o : Option (List ℕ)) → option_map one_line o ≡ None → o ≡ None
 unmapped None h = refl
 unmapped (Some l) h = absurd (cc)
 
-version_kept : (row : Row) (t : Tree) → first_of (rules_of row t) ≡ None → version_rule row.kind t ≡ None
-version_kept row t h =
-    let a = kept_first 3 (name_rule row.name t) _ h in
-    let b = kept_first 4 (alphabet_rule row.kind t) _ a.1 in
-    (kept_first 5 (version_rule row.kind t) _ b.1).0
+-- the rules on the name are kept, and so are those of the kind
+pub kind_kept : (row : Row) (t : Tree) → first_breach row t ≡ None → kind_breach row.kind t ≡ None
+kind_kept row t h =
+    let a = both_kept 3 (name_rule row.name t) _ h in
+    (both_kept 4 (alphabet_rule row.kind t) _ a.1).1
 
 abbrev pub HasRisingVersions : Entry → Type 0
 HasRisingVersions (Extension x) = AllPairs IsBelow x.versions
 HasRisingVersions (Param x) = Unit {0}
+HasRisingVersions (Instruction x) = Unit {0}
+HasRisingVersions (Csr x) = Unit {0}
+HasRisingVersions (Functions x) = Unit {0}
 HasRisingVersions (Config x) = Unit {0}
 
-of_kind : (k : Kind) (t : Tree) → version_rule k t ≡ None → HasRisingVersions (entry_of k t)
-of_kind kind.Extension t h = start (items_at t (codes "versions")) (unmapped _ h)
+of_kind : (k : Kind) (t : Tree) → kind_breach k t ≡ None → HasRisingVersions (entry_of k t)
+of_kind kind.Extension t h = start (items_at t (codes "versions")) (unmapped _ (both_kept 5 (version_rule t) _ h).0)
 of_kind kind.Parameter t h = tt
 of_kind kind.Instruction t h = tt
 of_kind kind.Csr t h = tt
@@ -98,4 +98,4 @@ of_kind kind.Functions t h = tt
 of_kind kind.Config t h = tt
 
 pub versions_rise : (row : Row) (e : Entry) → Gives row e → HasRisingVersions e
-versions_rise row e g = subst HasRisingVersions (sym g.is) (of_kind row.kind g.tree (version_kept row g.tree g.unbroken))
+versions_rise row e g = subst HasRisingVersions (sym g.is) (of_kind row.kind g.tree (kind_kept row g.tree g.unbroken))

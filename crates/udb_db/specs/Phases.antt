@@ -14,7 +14,7 @@ use Rattle.udb_refute.specs.Search.{HasShortLists}
 use Rattle.udb_lawful.specs.Misfit.{first_name, first_misfit}
 use Rattle.manual_spec.specs.Entries.{ext_space, param_space}
 use Rattle.udb_entry.specs.declared.answers.Entry.{Entry}
-use Rattle.udb_entry.specs.declared.answers.Entry.TheVariants.{Extension, Param, Config}
+use Rattle.udb_entry.specs.declared.answers.Entry.TheVariants.{Extension, Param, Instruction, Csr, Functions, Config}
 use Rattle.udb_entry.specs.declared.answers.EntryFault.{EntryFault}
 use Rattle.udb_entry.specs.declared.answers.EntryFault.TheVariants as entry
 use Rattle.udb_entry.specs.Rules.{Lines}
@@ -129,6 +129,9 @@ IsCompleted space e = (shows : Lines) → LacksCompletion space e shows → ⊥
 abbrev pub part_in : Space → Entry → Option Partial
 part_in space (Extension x) = None
 part_in space (Param x) = None
+part_in space (Instruction x) = None
+part_in space (Csr x) = None
+part_in space (Functions x) = None
 part_in space (Config x) = Some (part_of space x)
 
 abbrev pub IsConfigured : Space → Entry → Option Lines → Type 0

@@ -156,7 +156,7 @@ fn answer(alloc: Global, tables: Tables) -> Result<Database, AcceptFault>
 
 /// The database of tables that keep all rules of acceptance, or the first rule that they break: by
 /// its pass, then by the kind and name of the entry, then by its number. Of the kinds, extension,
-/// parameter and config are read so far. The rules stand in `db_spec`; what each shows stands in
+/// parameter and config are examined so far. The rules stand in `db_spec`; what each shows stands in
 /// `docs/formats/entries.md`. The other refusal is want of memory, and more constraints than 32
 /// bits can number are answered as such.
 pub fn accept(alloc: Global, tables: Tables) -> Result<Database, AcceptFault>

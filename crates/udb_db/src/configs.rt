@@ -38,6 +38,9 @@ fn missing_config(alloc: Global, space: &Space, entry: &Entry) -> Result<Option<
     match entry {
         Entry::Extension(_) => Ok(None),
         Entry::Param(_) => Ok(None),
+        Entry::Instruction(_) => Ok(None),
+        Entry::Csr(_) => Ok(None),
+        Entry::Functions(_) => Ok(None),
         Entry::Config(entry) => missing_part(alloc, space, entry),
     }
 }

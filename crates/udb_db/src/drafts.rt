@@ -63,6 +63,45 @@ fn is_parameter(kind: Kind) -> bool
     }
 }
 
+fn is_instruction(kind: Kind) -> bool
+    ensures { IsTrue result ↔ (Kind.Instruction ≡ kind) }
+{
+    match kind {
+        Kind::Extension => false,
+        Kind::Parameter => false,
+        Kind::Instruction => true,
+        Kind::Csr => false,
+        Kind::Functions => false,
+        Kind::Config => false,
+    }
+}
+
+fn is_csr(kind: Kind) -> bool
+    ensures { IsTrue result ↔ (Kind.Csr ≡ kind) }
+{
+    match kind {
+        Kind::Extension => false,
+        Kind::Parameter => false,
+        Kind::Instruction => false,
+        Kind::Csr => true,
+        Kind::Functions => false,
+        Kind::Config => false,
+    }
+}
+
+fn is_functions(kind: Kind) -> bool
+    ensures { IsTrue result ↔ (Kind.Functions ≡ kind) }
+{
+    match kind {
+        Kind::Extension => false,
+        Kind::Parameter => false,
+        Kind::Instruction => false,
+        Kind::Csr => false,
+        Kind::Functions => true,
+        Kind::Config => false,
+    }
+}
+
 fn is_config(kind: Kind) -> bool
     ensures { IsTrue result ↔ (Kind.Config ≡ kind) }
 {
@@ -82,6 +121,9 @@ fn is_of_kind(entry: &Entry, kind: Kind) -> bool
     match entry {
         Entry::Extension(_) => is_extension(kind),
         Entry::Param(_) => is_parameter(kind),
+        Entry::Instruction(_) => is_instruction(kind),
+        Entry::Csr(_) => is_csr(kind),
+        Entry::Functions(_) => is_functions(kind),
         Entry::Config(_) => is_config(kind),
     }
 }
@@ -92,6 +134,9 @@ fn name_of(entry: &Entry) -> &Name
     match entry {
         Entry::Extension(entry) => &entry.name,
         Entry::Param(entry) => &entry.name,
+        Entry::Instruction(entry) => &entry.name,
+        Entry::Csr(entry) => &entry.name,
+        Entry::Functions(entry) => &entry.name,
         Entry::Config(entry) => &entry.name,
     }
 }
@@ -130,6 +175,9 @@ fn config_part(alloc: Global, space: &Space, entry: &Entry) -> Result<Option<Par
     match entry {
         Entry::Extension(_) => Ok(None),
         Entry::Param(_) => Ok(None),
+        Entry::Instruction(_) => Ok(None),
+        Entry::Csr(_) => Ok(None),
+        Entry::Functions(_) => Ok(None),
         Entry::Config(entry) => Ok(Some(read_config(alloc, space, entry)?)),
     }
 }

@@ -61,7 +61,7 @@ pub fn examine_texts(alloc: Global, rows: &[Row]) -> Result<EntryList, Halt>
 }
 
 /// The names in the read entries. No rule that is examined with them is broken by entries of the
-/// kinds that are read.
+/// kinds that are examined.
 pub fn examine_names(
     alloc: Global,
     rows: &[Row],

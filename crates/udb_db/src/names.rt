@@ -136,6 +136,9 @@ fn entry_misfit<'a>(
             Some(name) => Ok(Some(name)),
             None => Ok(misfit(space, &entry.needs)),
         },
+        Entry::Instruction(_) => Ok(None),
+        Entry::Csr(_) => Ok(None),
+        Entry::Functions(_) => Ok(None),
         Entry::Config(entry) => config_misfit(alloc, space, entry),
     }
 }
@@ -174,6 +177,9 @@ fn depends_on_width(entry: &Entry) -> bool
     match entry {
         Entry::Extension(_) => false,
         Entry::Param(entry) => is_width_name(&entry.name),
+        Entry::Instruction(_) => false,
+        Entry::Csr(_) => false,
+        Entry::Functions(_) => false,
         Entry::Config(_) => false,
     }
 }

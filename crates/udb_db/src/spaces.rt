@@ -46,6 +46,9 @@ fn push_extension(alloc: Global, into: &mut ExtSpaces, entry: &Entry) -> Result<
     match entry {
         Entry::Extension(entry) => into.push(ext_space(alloc, entry)?),
         Entry::Param(_) => Ok(()),
+        Entry::Instruction(_) => Ok(()),
+        Entry::Csr(_) => Ok(()),
+        Entry::Functions(_) => Ok(()),
         Entry::Config(_) => Ok(()),
     }
 }
@@ -56,6 +59,9 @@ fn push_param(alloc: Global, into: &mut ParamSpaces, entry: &Entry) -> Result<()
     match entry {
         Entry::Extension(_) => Ok(()),
         Entry::Param(entry) => into.push(param_space(alloc, entry)?),
+        Entry::Instruction(_) => Ok(()),
+        Entry::Csr(_) => Ok(()),
+        Entry::Functions(_) => Ok(()),
         Entry::Config(_) => Ok(()),
     }
 }

@@ -25,9 +25,9 @@ use Rattle.udb_entry.specs.declared.answers.Entry.{Entry}
 use Rattle.udb_entry.specs.declared.answers.Breach.{Breach}
 use Rattle.udb_entry.specs.declared.answers.EntryFault.{EntryFault}
 use Rattle.udb_entry.specs.declared.answers.EntryFault.TheVariants.{Memory, Broken}
-use Rattle.udb_entry.specs.Schemas.{schema_of}
+use Rattle.entry_form.specs.Forms.{schema_of}
 use Rattle.udb_entry.specs.Entries.{entry_of}
-use Rattle.udb_entry.specs.First.{fault_line, word_text, breach, first_of, rules_of, FirstBroken, unspelled, unfit, wrong, Gives, fault_of, IsOrMemory, IsAnswer}
+use Rattle.udb_entry.specs.First.{fault_line, word_text, breach, first_breach, FirstBroken, unspelled, unfit, wrong, Gives, fault_of, IsOrMemory, IsAnswer}
 use Rattle.udb_entry.specs.Parts.{IsUnspelled, IsUnfit, IsExamined, IsKept}
 
 -- ---- the line of a text that spells no tree
@@ -78,8 +78,8 @@ place_one s t x b c p q u v same h e g f =
 met_refuted : (s : Schema) (t x : Tree) (p : List ℕ) (u : Word) → t ≡ x → FirstFault (s ∷ []) t p u → meets s x ≡ true → ⊥
 met_refuted s t x p u same h m = let e : false ≡ true = sym (one_refutes h) ∙ (ap (meets s) same ∙ m) in absurd (cc)
 
-rule_one : (row : Row) (t x : Tree) (b c : Breach) → t ≡ x → first_of (rules_of row t) ≡ Some b → first_of (rules_of row x) ≡ Some c → b ≡ c
-rule_one row t x b c same h g = some_same b c (sym h ∙ (ap (λ y. first_of (rules_of row y)) same ∙ g))
+rule_one : (row : Row) (t x : Tree) (b c : Breach) → t ≡ x → first_breach row t ≡ Some b → first_breach row x ≡ Some c → b ≡ c
+rule_one row t x b c same h g = some_same b c (sym h ∙ (ap (λ y. first_breach row y) same ∙ g))
 
 pub broken_one : (row : Row) (b c : Breach) → FirstBroken row b → FirstBroken row c → b ≡ c
 broken_one row b c (unspelled n o l h e) (unspelled m p k g f) = line_one row b c n m o p l h e k g f
@@ -94,8 +94,8 @@ broken_one row b c (wrong t r m h) (wrong x s k g) = rule_one row t x b c (spell
 
 -- ---- a row that gives an entry breaks none
 
-kept_none : (row : Row) (t x : Tree) (b : Breach) → t ≡ x → first_of (rules_of row t) ≡ None → first_of (rules_of row x) ≡ Some b → ⊥
-kept_none row t x b same h g = let e : None ≡ Some b = sym h ∙ (ap (λ y. first_of (rules_of row y)) same ∙ g) in absurd (cc)
+kept_none : (row : Row) (t x : Tree) (b : Breach) → t ≡ x → first_breach row t ≡ None → first_breach row x ≡ Some b → ⊥
+kept_none row t x b same h g = let e : None ≡ Some b = sym h ∙ (ap (λ y. first_breach row y) same ∙ g) in absurd (cc)
 
 pub gives_unbroken : (row : Row) (e : Entry) (b : Breach) → Gives row e → FirstBroken row b → ⊥
 gives_unbroken row e b gives (unspelled n o l h is) = least_none (lines_of row.text) n gives.tree l gives.spelled

@@ -1,3 +1,3 @@
-pub mod EntryLemmas
 pub mod AnswerLemmas
 pub mod GivenLaws
+pub mod ReadLemmas

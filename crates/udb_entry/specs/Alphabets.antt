@@ -1,10 +1,9 @@
 -- The alphabets of the names of entries.
 use Rattle.std.specs.Prelude.{◌==◌, ◌&&◌, ◌||◌, Bool, false, not, ℕ, nat_le, List, [], ◌∷◌, length}
-use Rattle.std.specs.List.{list_all, list_any}
-use Rattle.std.specs.Str.{bytes_eq}
+use Rattle.std.specs.List.{list_all}
 use Rattle.udb_base.specs.declared.kinds.Kind.{Kind}
 use Rattle.udb_base.specs.declared.kinds.Kind.TheVariants.{Extension, Parameter, Instruction, Csr, Functions, Config}
-use Rattle.idl_token.specs.Spelling.{reserved_text, reserved_words}
+use Rattle.idl_token.specs.Front.{is_reserved}
 
 abbrev pub is_upper : ℕ → Bool
 is_upper b = nat_le 65 b && nat_le b 90
@@ -37,10 +36,6 @@ is_word_of first alphabet name = begins first name && (list_all alphabet name &&
 abbrev pub is_word : (ℕ → Bool) → List ℕ → Bool
 is_word first name = is_word_of first is_word_byte name
 
--- a word of the language of bodies
-unfoldable pub is_reserved : List ℕ → Bool
-is_reserved name = list_any (λ w. bytes_eq name (reserved_text w)) reserved_words
-
 -- the name of an entry of a kind; instructions, CSRs, functions and configurations begin with a letter of either case
 abbrev pub has_alphabet : Kind → List ℕ → Bool
 has_alphabet Extension name = is_word is_upper name
@@ -49,3 +44,11 @@ has_alphabet Instruction name = is_word_of is_letter is_instruction_byte name
 has_alphabet Csr name = is_word is_letter name
 has_alphabet Functions name = is_word is_letter name
 has_alphabet Config name = is_word is_letter name
+
+-- the name of a field
+abbrev pub is_field_name : List ℕ → Bool
+is_field_name name = is_word is_upper name
+
+-- the name of a variable or of a function
+abbrev pub is_local_name : List ℕ → Bool
+is_local_name name = is_word is_lower name && not (is_reserved name)

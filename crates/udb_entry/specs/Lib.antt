@@ -1,6 +1,6 @@
 pub mod Keys
-pub mod Schemas
 pub mod Alphabets
+pub mod Bodies
 pub mod Entries
 pub mod Rules
 pub mod First

@@ -1,46 +1,11 @@
 //! The alphabets of names.
 
 ghost use Rattle.std.specs.Prelude.{◌≡◌};
-ghost use Rattle.std.specs.List.{list_all, list_any};
-ghost use Rattle.std.specs.Str.{bytes_eq};
+ghost use Rattle.std.specs.List.{list_all};
 ghost use Rattle.udb_entry.specs.Alphabets as spec;
 
+use idl_token::is_reserved;
 use udb_base::Kind;
-
-// The words of the language of bodies.
-const RESERVED: [&str; 31] = [
-    "Bits",
-    "Boolean",
-    "XReg",
-    "U32",
-    "U64",
-    "signed",
-    "true",
-    "false",
-    "if",
-    "else",
-    "for",
-    "return",
-    "function",
-    "returns",
-    "arguments",
-    "description",
-    "body",
-    "X",
-    "CSR",
-    "max",
-    "mode",
-    "xlen",
-    "jump",
-    "raise",
-    "read_memory",
-    "write_memory",
-    "PrivilegeMode",
-    "ExceptionCode",
-    "CsrFieldType",
-    "ExtensionName",
-    "csr_value",
-];
 
 fn is_upper(byte: u8) -> bool
     ensures { result ≡ spec.is_upper byte }
@@ -48,10 +13,16 @@ fn is_upper(byte: u8) -> bool
     (b'A'..=b'Z').contains(&byte)
 }
 
+fn is_lower(byte: u8) -> bool
+    ensures { result ≡ spec.is_lower byte }
+{
+    (b'a'..=b'z').contains(&byte)
+}
+
 fn is_letter(byte: u8) -> bool
     ensures { result ≡ spec.is_letter byte }
 {
-    is_upper(byte) || (b'a'..=b'z').contains(&byte)
+    is_upper(byte) || is_lower(byte)
 }
 
 fn is_word_byte(byte: u8) -> bool
@@ -66,6 +37,15 @@ fn begins_upper(bytes: &[u8]) -> bool
     match bytes {
         [] => false,
         [first, ..] => is_upper(*first),
+    }
+}
+
+fn begins_lower(bytes: &[u8]) -> bool
+    ensures { result ≡ spec.begins spec.is_lower bytes.now }
+{
+    match bytes {
+        [] => false,
+        [first, ..] => is_lower(*first),
     }
 }
 
@@ -124,22 +104,26 @@ fn is_instruction_word(name: &[u8]) -> bool
     begins_letter(name) && all_instruction_bytes(name) && name.len() <= 64
 }
 
-fn is_among(name: &str, words: &[&str]) -> bool
-    ensures { result ≡ list_any (λ w. bytes_eq name.now w.now) words.now }
+/// Whether a name is one of a field: at most 64 letters, digits and `_`, the first an upper-case
+/// letter.
+pub fn is_field_name(name: &str) -> bool
+    ensures { result ≡ spec.is_field_name name.now }
 {
-    for word in words {
-        if name == *word {
-            return true;
-        }
-    }
-    false
+    is_upper_word(name.as_bytes())
 }
 
-#[tactic(auto, unfolding(crate::specs::Alphabets::is_reserved, idl_token::specs::Spelling::reserved_words))]
-fn is_reserved(name: &str) -> bool
-    ensures { result ≡ spec.is_reserved name.now }
+fn is_lower_word(name: &[u8]) -> bool
+    ensures { result ≡ spec.is_word spec.is_lower name.now }
 {
-    is_among(name, &RESERVED)
+    begins_lower(name) && all_word_bytes(name) && name.len() <= 64
+}
+
+/// Whether a name is one of a variable or a function: at most 64 letters, digits and `_`, the first
+/// a lower-case letter, and no word of the language of bodies.
+pub fn is_local_name(name: &str) -> bool
+    ensures { result ≡ spec.is_local_name name.now }
+{
+    is_lower_word(name.as_bytes()) && !is_reserved(name)
 }
 
 /// Whether a name has the alphabet of the names of a kind's entries: at most 64 letters, digits and

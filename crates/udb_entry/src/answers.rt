@@ -1,19 +1,27 @@
 //! What is answered of a row.
 
-use entry_tree::{ConfigEntry, ExtensionEntry, ParamEntry};
+use entry_tree::{
+    ConfigEntry, CsrEntry, ExtensionEntry, FunctionsEntry, InstructionEntry, ParamEntry,
+};
 use std::alloc::AllocError;
-use udb_base::Lines;
+use udb_base::{Lines, Many};
 
 /// An entry, read from the text of its row.
 #[derive(Drop)]
 pub enum Entry {
     Extension(ExtensionEntry),
     Param(ParamEntry),
+    Instruction(InstructionEntry),
+    Csr(CsrEntry),
+    Functions(FunctionsEntry),
     Config(ConfigEntry),
 }
 
-/// A rule that an entry breaks, with the lines that show the breach. Rules are numbered as the
-/// documents of the repository number them.
+/// The instructions of a database as they were read, in the order of their names.
+pub type Instructions = Many<InstructionEntry>;
+
+/// A rule that an entry breaks, with the lines that show it. Rules are numbered as the documents of
+/// the repository number them.
 #[derive(Drop)]
 pub struct Breach {
     pub rule: u8,

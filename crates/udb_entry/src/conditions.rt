@@ -1,11 +1,16 @@
 //! Conditions and members under keys.
 
-ghost use Rattle.std.specs.Prelude.{◌≡◌, [], IfOk, is_some};
+ghost use Rattle.std.specs.Prelude.{◌≡◌, [], IfOk};
 ghost use Rattle.std.specs.Option.{unwrap_or};
 ghost use Rattle.udb_base.specs.declared.conditions.Cond.TheVariants as cond;
 ghost use Rattle.udb_entry.specs.Entries as spec;
+ghost use Rattle.udb_entry.specs.Rules as rules;
+ghost use Rattle.udb_entry.specs.Parts.{ReadsBy};
 
+use crate::answers::EntryFault;
+use crate::chains::breach_of;
 use crate::keys::value_at;
+use crate::rules::one_line;
 use cond_tree::{read_cond, read_implemented, read_members};
 use entry_tree::Members;
 use std::alloc::Global;
@@ -22,20 +27,14 @@ fn condition_at(alloc: Global, tree: &Tree, key: &str) -> Result<Option<Cond>, N
     }
 }
 
-/// Whether the condition under a key can be read; a missing one can.
-pub fn reads_condition(alloc: Global, tree: &Tree, key: &str) -> Result<bool, NoMemory>
-    ensures { IfOk result (λ reads. reads ≡ is_some (spec.condition_at tree.now key.now)) }
-{
-    Ok(condition_at(alloc, tree, key)?.is_some())
-}
-
-/// The condition under a key: `Always` where there is none.
-pub fn condition_under(alloc: Global, tree: &Tree, key: &str) -> Result<Cond, NoMemory>
-    ensures { IfOk result (λ c. c ≡ unwrap_or (spec.condition_at tree.now key.now) cond.Always) }
+/// The condition under a key: `Always` where there is none. Rule 8 is that it can be read.
+pub fn condition(alloc: Global, tree: &Tree, key: &str) -> Result<Cond, EntryFault>
+    ensures { ReadsBy 8 (rules.condition_rule tree.now key.now)
+        (unwrap_or (spec.condition_at tree.now key.now) cond.Always) result }
 {
     match condition_at(alloc, tree, key)? {
-        Some(cond) => Ok(cond),
-        None => Ok(Cond::Always),
+        Some(read) => Ok(read),
+        None => Err(breach_of(8, one_line(alloc, key))),
     }
 }
 
@@ -48,20 +47,14 @@ fn members_at(alloc: Global, tree: &Tree, key: &str) -> Result<Option<Members>, 
     }
 }
 
-/// Whether the members under a key can be read; missing ones can.
-pub fn reads_members(alloc: Global, tree: &Tree, key: &str) -> Result<bool, NoMemory>
-    ensures { IfOk result (λ reads. reads ≡ is_some (spec.members_at tree.now key.now)) }
-{
-    Ok(members_at(alloc, tree, key)?.is_some())
-}
-
-/// The members under a key, in the order of the text.
-pub fn members_under(alloc: Global, tree: &Tree, key: &str) -> Result<Members, NoMemory>
-    ensures { IfOk result (λ ms. ms ≡ unwrap_or (spec.members_at tree.now key.now) []) }
+/// The members under a key, in the order of the text. Rule 8 is that they can be read.
+pub fn members(alloc: Global, tree: &Tree, key: &str) -> Result<Members, EntryFault>
+    ensures { ReadsBy 8 (rules.members_rule tree.now key.now)
+        (unwrap_or (spec.members_at tree.now key.now) []) result }
 {
     match members_at(alloc, tree, key)? {
-        Some(members) => Ok(members),
-        None => Ok(Many::new(alloc)),
+        Some(read) => Ok(read),
+        None => Err(breach_of(8, one_line(alloc, key))),
     }
 }
 
@@ -74,19 +67,13 @@ fn implemented_at(alloc: Global, tree: &Tree, key: &str) -> Result<Option<Member
     }
 }
 
-/// Whether the members under a key can be read, each with one version or none.
-pub fn reads_implemented(alloc: Global, tree: &Tree, key: &str) -> Result<bool, NoMemory>
-    ensures { IfOk result (λ reads. reads ≡ is_some (spec.implemented_at tree.now key.now)) }
-{
-    Ok(implemented_at(alloc, tree, key)?.is_some())
-}
-
-/// The members under a key that have one version or none, in the order of the text.
-pub fn implemented_under(alloc: Global, tree: &Tree, key: &str) -> Result<Members, NoMemory>
-    ensures { IfOk result (λ ms. ms ≡ unwrap_or (spec.implemented_at tree.now key.now) []) }
+/// The members under a key that have one version or none. Rule 8 is that they can be read.
+pub fn implemented(alloc: Global, tree: &Tree, key: &str) -> Result<Members, EntryFault>
+    ensures { ReadsBy 8 (rules.implemented_rule tree.now key.now)
+        (unwrap_or (spec.implemented_at tree.now key.now) []) result }
 {
     match implemented_at(alloc, tree, key)? {
-        Some(members) => Ok(members),
-        None => Ok(Many::new(alloc)),
+        Some(read) => Ok(read),
+        None => Err(breach_of(8, one_line(alloc, key))),
     }
 }

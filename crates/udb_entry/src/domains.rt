@@ -1,10 +1,12 @@
 //! Domains of parameters.
 
-ghost use Rattle.std.specs.Prelude.{◌≡◌, IfOk, map};
+ghost use Rattle.std.specs.Prelude.{◌≡◌, IfOk, map, codes};
 ghost use Rattle.udb_entry.specs.Keys as keys;
 ghost use Rattle.udb_entry.specs.Entries as spec;
 ghost use Rattle.udb_entry.specs.Rules as rules;
+ghost use Rattle.udb_entry.specs.Parts.{ReadsBy};
 
+use crate::answers::EntryFault;
 use crate::keys::{items_at, number_at, number_in, text_at, text_in, value_at};
 use std::alloc::Global;
 use udb_base::{Chars, Domain, Many, NoMemory, Numbers, Words, are_distinct};
@@ -55,8 +57,7 @@ fn domain(alloc: Global, tree: &Tree) -> Result<Domain, NoMemory>
     number_domain(alloc, tree)
 }
 
-/// The domain under a key.
-pub fn domain_at(alloc: Global, tree: &Tree, key: &str) -> Result<Domain, NoMemory>
+fn domain_at(alloc: Global, tree: &Tree, key: &str) -> Result<Domain, NoMemory>
     ensures { IfOk result (λ domain. domain ≡ spec.domain_at tree.now key.now) }
 {
     match value_at(tree, key) {
@@ -65,8 +66,7 @@ pub fn domain_at(alloc: Global, tree: &Tree, key: &str) -> Result<Domain, NoMemo
     }
 }
 
-/// Whether a domain has no value twice and no low end above its high end.
-pub fn is_domain(domain: &Domain) -> bool
+fn is_domain(domain: &Domain) -> bool
     ensures { result ≡ rules.is_domain domain.now }
 {
     match domain {
@@ -74,5 +74,22 @@ pub fn is_domain(domain: &Domain) -> bool
         Domain::Numbers(numbers) => are_distinct(numbers.as_slice()),
         Domain::Range { low, high } => *low <= *high,
         Domain::Words(words) => are_distinct(words.as_slice()),
+    }
+}
+
+/// The domain of a parameter. Rule 6 is that no value stands twice, and no low end above its high
+/// end.
+pub fn param_domain(alloc: Global, tree: &Tree) -> Result<Domain, EntryFault>
+    ensures { ReadsBy 6 (rules.domain_rule tree.now)
+        (spec.domain_at tree.now (codes "schema")) result }
+{
+    let domain = domain_at(alloc, tree, "schema")?;
+    if is_domain(&domain) {
+        Ok(domain)
+    } else {
+        Err(EntryFault::Broken {
+            rule: 6,
+            shows: Many::new(alloc),
+        })
     }
 }

@@ -6,7 +6,8 @@ ghost use Rattle.udb_entry.specs.Keys as spec;
 
 use yaml_spec::{Pair, Tree, value_under};
 
-fn pairs_in(tree: &Tree) -> &[Pair]
+/// The entries of the map that a tree is, else none.
+pub fn pairs_in(tree: &Tree) -> &[Pair]
     ensures { result.now ≡ spec.pairs_in tree.now }
 {
     match tree.as_map() {

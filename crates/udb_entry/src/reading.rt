@@ -1,40 +1,32 @@
 //! The entry that a row gives, or the first rule that it breaks.
 
-ghost use Rattle.std.specs.Prelude.{◌≡◌, IsTrue, Ok, Err};
+ghost use Rattle.std.specs.Prelude.{◌≡◌, Ok, Err};
 ghost use Rattle.yaml_spec.specs.Texts.{Spelled};
 ghost use Rattle.udb_entry.specs.declared.answers.Entry.{Entry};
 ghost use Rattle.udb_entry.specs.declared.answers.Breach.{Breach};
-ghost use Rattle.udb_entry.specs.Schemas as schemas;
+ghost use Rattle.entry_form.specs.Forms as forms;
 ghost use Rattle.udb_entry.specs.First as spec;
 ghost use Rattle.udb_entry.specs.Parts as parts;
 
-use crate::answers::{Breach, Entry, EntryFault};
+use crate::answers::{Entry, EntryFault};
+use crate::chains::{both_read, breach_of, examined};
 use crate::entries::entry_of;
-use crate::rules::first_breach;
-use crate::schemas::schema_of;
+use crate::rules::{alphabet_rule, name_rule};
 use crate::shows::{bad_line, outside_line, place_lines};
+use entry_form::schema_of;
 use std::alloc::Global;
-use udb_base::{Kind, Lines, NoMemory, Row};
+use udb_base::{Kind, Row};
 use udb_schema::{Schema, SchemaFault};
 use udb_yaml::read_tree;
 use yaml_spec::{Tree, YamlFault};
-
-fn fault_of(rule: u8, shows: Result<Lines, NoMemory>) -> EntryFault
-    ensures { parts.IsBroken rule shows result }
-{
-    match shows {
-        Ok(shows) => EntryFault::Broken { rule, shows },
-        Err(_) => EntryFault::Memory,
-    }
-}
 
 fn spelling_fault(alloc: Global, fault: YamlFault) -> EntryFault
     ensures { parts.IsUnspelled fault result }
 {
     match fault {
         YamlFault::Memory => EntryFault::Memory,
-        YamlFault::Bad { line } => fault_of(1, bad_line(alloc, line)),
-        YamlFault::Outside { line, word } => fault_of(1, outside_line(alloc, line, word)),
+        YamlFault::Bad { line } => breach_of(1, bad_line(alloc, line)),
+        YamlFault::Outside { line, word } => breach_of(1, outside_line(alloc, line, word)),
     }
 }
 
@@ -43,12 +35,12 @@ fn schema_fault(alloc: Global, fault: SchemaFault) -> EntryFault
 {
     match fault {
         SchemaFault::Memory => EntryFault::Memory,
-        SchemaFault::At { path, word } => fault_of(2, place_lines(alloc, path, word)),
+        SchemaFault::At { path, word } => breach_of(2, place_lines(alloc, path, word)),
     }
 }
 
 fn examine_by(alloc: Global, schema: &Schema, kind: Kind, tree: &Tree) -> Result<(), EntryFault>
-    requires { schema.now ≡ schemas.schema_of kind }
+    requires { schema.now ≡ forms.schema_of kind }
     ensures { parts.IsExamined kind tree.now result }
 {
     match schema.validate(alloc, tree) {
@@ -67,9 +59,12 @@ fn examine(alloc: Global, kind: Kind, tree: &Tree) -> Result<(), EntryFault>
 fn entry_by_rules(alloc: Global, row: &Row, tree: &Tree) -> Result<Entry, EntryFault>
     ensures { parts.IsKept row.now tree.now result }
 {
-    match first_breach(alloc, row, tree)? {
-        Some(Breach { rule, shows }) => Err(EntryFault::Broken { rule, shows }),
-        None => Ok(entry_of(alloc, row.kind, tree)?),
+    let name = examined(3, name_rule(alloc, &row.name, tree));
+    let alphabet = examined(4, alphabet_rule(alloc, row.kind, tree));
+    let rest = both_read(alphabet, entry_of(alloc, row.kind, tree));
+    match both_read(name, rest) {
+        Ok(parts) => Ok(parts.1.1),
+        Err(fault) => Err(fault),
     }
 }
 
@@ -92,14 +87,14 @@ fn read(alloc: Global, row: &Row) -> Result<Entry, EntryFault>
 }
 
 /// The entry that a row gives, or the first rule that the row breaks: its number, with the lines
-/// that show the breach. Of the kinds, extension, parameter and config are read so far. Rule 1 is
-/// that the text is spelled in the YAML profile, 2 that its tree meets the schema of the kind
-/// (JSON Schema 2020-12), 3 that the name is the row's, 4 that it has its alphabet, 5 that versions
-/// can be read and rise, 6 that a domain has no value twice and no low end above its high end, 8
-/// that conditions and members can be read. A rule is examined only where those before it are kept.
-/// What each shows stands in `docs/formats/entries.md`. The other refusal is want of memory.
+/// that show the breach. Rule 1 is that the text is spelled in the YAML profile, 2 that its tree
+/// meets the schema of the kind (JSON Schema 2020-12), 3 that the name is the row's, 4 that names
+/// have their alphabets, 5 that versions can be read and rise, 6 that a domain has no value twice
+/// and no low end above its high end, 7 that matches, variables and locations are well formed, 8
+/// that conditions and members can be read, 9 that bodies can be. A rule is examined only where
+/// those before it are kept. What each shows stands in `docs/formats/entries.md`. The other refusal
+/// is want of memory.
 pub fn read_entry(alloc: Global, row: &Row) -> Result<Entry, EntryFault>
-    requires kind { IsTrue (spec.is_read_kind row.now.kind) }
     ensures given { (e : Entry) → result ≡ Ok e → spec.Gives row.now e }
     ensures only { (e : Entry) → spec.Gives row.now e → spec.IsOrMemory (Ok e) result }
     ensures broken { (b : Breach) → result ≡ Err (spec.fault_of b) → spec.FirstBroken row.now b }

@@ -1,19 +1,15 @@
-//! The rules on an entry whose text spells a tree that meets its kind's schema.
+//! The rules on names.
 
-ghost use Rattle.std.specs.Prelude.{◌≡◌, IfOk, Some};
-ghost use Rattle.udb_base.specs.declared.kinds.Kind.TheVariants as kind;
+ghost use Rattle.std.specs.Prelude.{◌≡◌, ◌∷◌, [], IfOk, Some};
 ghost use Rattle.udb_entry.specs.Rules as spec;
-ghost use Rattle.udb_entry.specs.First as first;
+ghost use Rattle.udb_entry.specs.Alphabets.{is_field_name, is_local_name};
 
-use crate::alphabets::has_alphabet;
-use crate::answers::Breach;
-use crate::conditions::{reads_condition, reads_implemented, reads_members};
-use crate::domains::{domain_at, is_domain};
-use crate::keys::{items_at, text_at};
-use crate::versions::first_wrong;
+use crate::alphabets::{has_alphabet, is_field_name, is_local_name};
+use crate::keys::text_at;
+use idl_tree::Function;
 use std::alloc::Global;
-use udb_base::{Chars, Kind, Lines, Many, NoMemory, Row};
-use yaml_spec::Tree;
+use udb_base::{Chars, Kind, Lines, Many, Name, NoMemory};
+use yaml_spec::{Pair, Tree};
 
 /// One line.
 pub fn one_line(alloc: Global, text: &str) -> Result<Lines, NoMemory>
@@ -24,25 +20,27 @@ pub fn one_line(alloc: Global, text: &str) -> Result<Lines, NoMemory>
     Ok(lines)
 }
 
-// The line in an answer.
-fn show(alloc: Global, text: &str) -> Result<Option<Lines>, NoMemory>
+/// The line in an answer.
+pub fn show(alloc: Global, text: &str) -> Result<Option<Lines>, NoMemory>
     ensures { IfOk result (λ lines. lines ≡ Some (spec.one_line text.now)) }
 {
     Ok(Some(one_line(alloc, text)?))
 }
 
-fn name_rule(alloc: Global, name: &str, tree: &Tree) -> Result<Option<Lines>, NoMemory>
+/// The name in the text is the row's.
+pub fn name_rule(alloc: Global, name: &Name, tree: &Tree) -> Result<Option<Lines>, NoMemory>
     ensures { IfOk result (λ shows. shows ≡ spec.name_rule name.now tree.now) }
 {
     let own = text_at(tree, "name");
-    if own == name {
+    if own == name.as_str() {
         Ok(None)
     } else {
         show(alloc, own)
     }
 }
 
-fn alphabet_rule(alloc: Global, kind: Kind, tree: &Tree) -> Result<Option<Lines>, NoMemory>
+/// The name has its alphabet.
+pub fn alphabet_rule(alloc: Global, kind: Kind, tree: &Tree) -> Result<Option<Lines>, NoMemory>
     ensures { IfOk result (λ shows. shows ≡ spec.alphabet_rule kind tree.now) }
 {
     let own = text_at(tree, "name");
@@ -53,124 +51,40 @@ fn alphabet_rule(alloc: Global, kind: Kind, tree: &Tree) -> Result<Option<Lines>
     }
 }
 
-fn extension_versions(alloc: Global, tree: &Tree) -> Result<Option<Lines>, NoMemory>
-    ensures { IfOk result (λ shows. shows ≡ spec.version_rule kind.Extension tree.now) }
+/// The name of a field has its alphabet.
+pub fn field_name_rule(alloc: Global, field: &Pair) -> Result<Option<Lines>, NoMemory>
+    ensures { IfOk result
+        (λ shows. shows ≡ spec.first_unfit is_field_name (field.now.key ∷ [])) }
 {
-    match first_wrong(alloc, items_at(tree, "versions"))? {
-        Some(text) => show(alloc, text.as_str()),
-        None => Ok(None),
-    }
-}
-
-fn version_rule(alloc: Global, kind: Kind, tree: &Tree) -> Result<Option<Lines>, NoMemory>
-    ensures { IfOk result (λ shows. shows ≡ spec.version_rule kind tree.now) }
-{
-    match kind {
-        Kind::Extension => extension_versions(alloc, tree),
-        _ => Ok(None),
-    }
-}
-
-fn param_domain(alloc: Global, tree: &Tree) -> Result<Option<Lines>, NoMemory>
-    ensures { IfOk result (λ shows. shows ≡ spec.domain_rule kind.Parameter tree.now) }
-{
-    let domain = domain_at(alloc, tree, "schema")?;
-    if is_domain(&domain) {
+    if is_field_name(field.key.as_str()) {
         Ok(None)
     } else {
-        Ok(Some(Many::new(alloc)))
+        show(alloc, field.key.as_str())
     }
 }
 
-fn domain_rule(alloc: Global, kind: Kind, tree: &Tree) -> Result<Option<Lines>, NoMemory>
-    ensures { IfOk result (λ shows. shows ≡ spec.domain_rule kind tree.now) }
+/// Shows the first of the variables' names of a match that isn't one of a variable.
+pub fn variable_names_rule(alloc: Global, items: &[Tree]) -> Result<Option<Lines>, NoMemory>
+    ensures { IfOk result
+        (λ shows. shows ≡ spec.first_unfit is_local_name (spec.names_of items.now)) }
 {
-    match kind {
-        Kind::Parameter => param_domain(alloc, tree),
-        _ => Ok(None),
+    for item in items {
+        let name = text_at(item, "name");
+        if !is_local_name(name) {
+            return show(alloc, name);
+        }
     }
+    Ok(None)
 }
 
-fn extension_conditions(alloc: Global, tree: &Tree) -> Result<Option<Lines>, NoMemory>
-    ensures { IfOk result (λ shows. shows ≡ spec.condition_rule kind.Extension tree.now) }
+/// Shows the first of the names of functions that isn't one of a function.
+pub fn declared_names_rule(alloc: Global, functions: &[Function]) -> Result<Option<Lines>, NoMemory>
+    ensures { IfOk result (λ shows. shows ≡ spec.declared_names functions.now) }
 {
-    if reads_condition(alloc, tree, "requirements")? {
-        Ok(None)
-    } else {
-        show(alloc, "requirements")
-    }
-}
-
-fn param_conditions(alloc: Global, tree: &Tree) -> Result<Option<Lines>, NoMemory>
-    ensures { IfOk result (λ shows. shows ≡ spec.condition_rule kind.Parameter tree.now) }
-{
-    if !reads_condition(alloc, tree, "definedBy")? {
-        return show(alloc, "definedBy");
-    }
-    extension_conditions(alloc, tree)
-}
-
-fn implemented_members(alloc: Global, tree: &Tree) -> Result<Option<Lines>, NoMemory>
-    ensures { IfOk result (λ shows. shows ≡ spec.unread_from 2 kind.Config tree.now) }
-{
-    if reads_implemented(alloc, tree, "implemented_extensions")? {
-        Ok(None)
-    } else {
-        show(alloc, "implemented_extensions")
-    }
-}
-
-fn prohibited_members(alloc: Global, tree: &Tree) -> Result<Option<Lines>, NoMemory>
-    ensures { IfOk result (λ shows. shows ≡ spec.unread_from 1 kind.Config tree.now) }
-{
-    if reads_members(alloc, tree, "prohibited_extensions")? {
-        implemented_members(alloc, tree)
-    } else {
-        show(alloc, "prohibited_extensions")
-    }
-}
-
-fn config_members(alloc: Global, tree: &Tree) -> Result<Option<Lines>, NoMemory>
-    ensures { IfOk result (λ shows. shows ≡ spec.condition_rule kind.Config tree.now) }
-{
-    if reads_members(alloc, tree, "mandatory_extensions")? {
-        prohibited_members(alloc, tree)
-    } else {
-        show(alloc, "mandatory_extensions")
-    }
-}
-
-fn condition_rule(alloc: Global, kind: Kind, tree: &Tree) -> Result<Option<Lines>, NoMemory>
-    ensures { IfOk result (λ shows. shows ≡ spec.condition_rule kind tree.now) }
-{
-    match kind {
-        Kind::Extension => extension_conditions(alloc, tree),
-        Kind::Parameter => param_conditions(alloc, tree),
-        Kind::Config => config_members(alloc, tree),
-        _ => Ok(None),
-    }
-}
-
-// ---- the first of them
-
-/// The first rule on the tree that is broken.
-pub fn first_breach(alloc: Global, row: &Row, tree: &Tree) -> Result<Option<Breach>, NoMemory>
-    ensures { IfOk result (λ breach. breach ≡ first.first_of (first.rules_of row.now tree.now)) }
-{
-    if let Some(shows) = name_rule(alloc, row.name.as_str(), tree)? {
-        return Ok(Some(Breach { rule: 3, shows }));
-    }
-    if let Some(shows) = alphabet_rule(alloc, row.kind, tree)? {
-        return Ok(Some(Breach { rule: 4, shows }));
-    }
-    if let Some(shows) = version_rule(alloc, row.kind, tree)? {
-        return Ok(Some(Breach { rule: 5, shows }));
-    }
-    if let Some(shows) = domain_rule(alloc, row.kind, tree)? {
-        return Ok(Some(Breach { rule: 6, shows }));
-    }
-    if let Some(shows) = condition_rule(alloc, row.kind, tree)? {
-        return Ok(Some(Breach { rule: 8, shows }));
+    for function in functions {
+        if !is_local_name(function.name.as_str()) {
+            return show(alloc, function.name.as_str());
+        }
     }
     Ok(None)
 }

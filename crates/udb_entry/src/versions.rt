@@ -1,12 +1,17 @@
 //! Listed versions.
 
-ghost use Rattle.std.specs.Prelude.{◌≡◌, IfOk, map, None};
+ghost use Rattle.std.specs.Prelude.{◌≡◌, IfOk, map, None, codes, option_map};
 ghost use Rattle.std.specs.Result.{result_ok};
 ghost use Rattle.std.specs.Fmt.{signed_decimal};
+ghost use Rattle.udb_entry.specs.Keys as keys;
 ghost use Rattle.udb_entry.specs.Entries as spec;
 ghost use Rattle.udb_entry.specs.Rules as rules;
+ghost use Rattle.udb_entry.specs.Parts.{ReadsBy};
 
-use crate::keys::{flag_at, text_in, value_at};
+use crate::answers::EntryFault;
+use crate::chains::breach_of;
+use crate::keys::{flag_at, items_at, text_in, value_at};
+use crate::rules::one_line;
 use std::alloc::Global;
 use udb_base::{Chars, ListedVersions, Many, NoMemory};
 use udb_cond::{Listed, Version, is_below, parse_version};
@@ -48,52 +53,45 @@ fn follows(before: Option<Version>, version: Option<Version>) -> bool
     }
 }
 
-/// The text of the first version that can't be read or isn't above the one before it.
-pub fn first_wrong(alloc: Global, versions: &[Tree]) -> Result<Option<Chars>, NoMemory>
-    ensures { IfOk result (λ wrong. wrong ≡ rules.first_wrong None versions.now) }
+fn listed(version: Option<Version>, breaking: bool) -> Listed
+    ensures { result ≡ spec.listed version breaking }
 {
+    match version {
+        Some(version) => Listed { version, breaking },
+        None => Listed {
+            version: Version {
+                major: 0,
+                minor: 0,
+                patch: 0,
+            },
+            breaking,
+        },
+    }
+}
+
+fn listed_versions(alloc: Global, versions: &[Tree]) -> Result<ListedVersions, EntryFault>
+    ensures { ReadsBy 5 (option_map rules.one_line (rules.first_wrong None versions.now))
+        (map spec.listed_of versions.now) result }
+{
+    let mut list = Many::new(alloc);
     let mut before = None;
     for tree in versions {
         let text = version_text(alloc, tree)?;
         let version = parse_version(text.as_str()).ok();
         if !follows(before, version) {
-            return Ok(Some(text));
+            return Err(breach_of(5, one_line(alloc, text.as_str())));
         }
+        list.push(listed(version, flag_at(tree, "breaking", false)))?;
         before = version;
     }
-    Ok(None)
-}
-
-fn version_or_none(text: &str) -> Version
-    ensures { result ≡ spec.version_or_none text.now }
-{
-    match parse_version(text) {
-        Ok(version) => version,
-        Err(_) => Version {
-            major: 0,
-            minor: 0,
-            patch: 0,
-        },
-    }
-}
-
-fn listed_of(alloc: Global, tree: &Tree) -> Result<Listed, NoMemory>
-    ensures { IfOk result (λ listed. listed ≡ spec.listed_of tree.now) }
-{
-    let text = version_text(alloc, tree)?;
-    Ok(Listed {
-        version: version_or_none(text.as_str()),
-        breaking: flag_at(tree, "breaking", false),
-    })
-}
-
-/// The versions of a list.
-pub fn listed_versions(alloc: Global, versions: &[Tree]) -> Result<ListedVersions, NoMemory>
-    ensures { IfOk result (λ list. list ≡ map spec.listed_of versions.now) }
-{
-    let mut list = Many::new(alloc);
-    for tree in versions {
-        list.push(listed_of(alloc, tree)?)?;
-    }
     Ok(list)
+}
+
+/// The versions of an extension. Rule 5 is that each can be read and is above the one before it; the
+/// first that isn't is shown.
+pub fn versions(alloc: Global, tree: &Tree) -> Result<ListedVersions, EntryFault>
+    ensures { ReadsBy 5 (rules.version_rule tree.now)
+        (map spec.listed_of (keys.items_at tree.now (codes "versions"))) result }
+{
+    listed_versions(alloc, items_at(tree, "versions"))
 }

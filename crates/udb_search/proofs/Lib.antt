@@ -1,4 +1,3 @@
 pub mod SameRows
-pub mod Keys
 pub mod Replied
 pub mod OneStatus

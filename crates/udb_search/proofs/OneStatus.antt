@@ -10,7 +10,7 @@ use Rattle.udb_base.specs.declared.conditions.Cond.{Cond}
 use Rattle.udb_base.specs.declared.refutations.Partial.{Partial}
 use Rattle.udb_base.specs.declared.spaces.Space.{Space}
 use Rattle.udb_entry.specs.declared.answers.Entry.{Entry}
-use Rattle.udb_entry.specs.First.{is_read_kind}
+use Rattle.db_spec.specs.Kinds.{is_read_kind}
 use Rattle.udb_bundle.specs.declared.bundle.Bundle.{Bundle}
 use Rattle.udb_bundle.specs.Bundles.{Spells}
 use Rattle.db_spec.specs.Entries.{kind_of, name_of}
@@ -34,13 +34,12 @@ entry_row rows k n es e kinds at =
     let i = at.among.0 in
     let in_rows : i < length rows = omega (arith, give_long rows es at.give, at.among.1) in
     let x = gives_at rows es i at.give in_rows in
-    let same : x.entry ≡ e = x.entry_is ∙ (get_or_default es i x.entry e at.among.1 ∙ at.among.2) in
-    let read : IsTrue (is_read_kind x.row.kind) = subst (λ y. IsTrue (is_read_kind y.kind)) (sym x.row_is) (kinds i x.row in_rows) in (
+    let same : x.entry ≡ e = x.entry_is ∙ (get_or_default es i x.entry e at.among.1 ∙ at.among.2) in (
       x.row,
       record {
         among = (i, in_rows, sym x.row_is);
-        of_kind = sym (gives_kind x.row x.entry read x.gives) ∙ (ap kind_of same ∙ at.of_kind);
-        of_name = sym (gives_name x.row x.entry read x.gives) ∙ (ap name_of same ∙ at.of_name);
+        of_kind = sym (gives_kind x.row x.entry x.gives) ∙ (ap kind_of same ∙ at.of_kind);
+        of_name = sym (gives_name x.row x.entry x.gives) ∙ (ap name_of same ∙ at.of_name);
       },
     )
 

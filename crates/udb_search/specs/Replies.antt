@@ -30,7 +30,7 @@ use Rattle.udb_search.specs.Texts.{broken_text, no_bundle_text, not_built_text, 
 
 -- ---- the tables of an input
 
--- all rows are of kinds that are read so far, and the shipped rows aren't asked for
+-- all rows are of kinds that are examined so far, and the shipped rows aren't asked for
 pub record IsBuilt (b : Bundle) : Type 0 where
   pub kinds : HasReadKinds b.rows
   pub unshipped : b.shipped ≡ false

@@ -4,8 +4,8 @@ ghost use Rattle.std.specs.Prelude.{◌≡◌, IfOk, IsTrue};
 ghost use Rattle.udb_spec.specs.Lawful.{Lawful};
 ghost use Rattle.udb_bundle.specs.declared.bundle.Bundle.{Bundle};
 ghost use Rattle.udb_bundle.specs.Bundles.{HasDistinctKeys};
-ghost use Rattle.udb_entry.specs.First as entry;
 ghost use Rattle.db_spec.specs.Entries as spec;
+ghost use Rattle.db_spec.specs.Kinds.{is_read_kind};
 ghost use Rattle.db_spec.specs.First.{HasReadKinds};
 ghost use Rattle.udb_search.specs.Texts as texts;
 ghost use Rattle.udb_search.specs.Replies.{IsFoundText, IsVerdict, IsReplyTo, RefuteReply, CheckReply, RefuteReplies, CheckReplies};
@@ -57,6 +57,9 @@ fn asked(alloc: Global, entry: &Entry) -> Result<Cond, NoMemory>
             Ok(Cond::Ext { name, needs })
         }
         Entry::Param(entry) => entry.defined.copy(alloc),
+        Entry::Instruction(entry) => entry.defined.copy(alloc),
+        Entry::Csr(entry) => entry.defined.copy(alloc),
+        Entry::Functions(_) => Ok(Cond::Always),
         Entry::Config(_) => Ok(Cond::Always),
     }
 }
@@ -203,7 +206,7 @@ fn check_in(
 // ---- bundles
 
 fn is_read(kind: Kind) -> bool
-    ensures { result ≡ entry.is_read_kind kind }
+    ensures { result ≡ is_read_kind kind }
 {
     match kind {
         Kind::Extension => true,
@@ -241,7 +244,7 @@ fn tables_of(alloc: Global, bundle: &Bundle) -> Result<Option<Tables>, NoMemory>
 
 /// The reply of `refute <config> <kind> <name>` to the bytes of its input: a completion of the
 /// configuration that has the entry, or the lines of a proof that there is none. Refusals are met in
-/// this order: 10 no bundle, 12 a row of a kind that isn't read yet or the word `shipped`, 1 a broken
+/// this order: 10 no bundle, 12 a row of a kind that isn't examined yet or the word `shipped`, 1 a broken
 /// rule, 9 a name that the tables lack, the configuration's before the entry's. The one answer beside
 /// a reply is want of memory.
 pub fn refute(

@@ -1,27 +1,12 @@
 //! The texts of refusals, of what a search finds and of what a checker says.
 
 ghost use Rattle.std.specs.Prelude.{◌≡◌, ◌∷◌, ◌++◌, [], IfOk, OnOk, string_bytes};
-ghost use Rattle.udb_base.specs.Kinds.{kind_word};
 ghost use Rattle.udb_base.specs.Lines.{text_of_lines};
 ghost use Rattle.udb_search.specs.Texts as spec;
 
 use db_spec::Broken;
 use std::alloc::Global;
-use udb_base::{Chars, Kind, Lines, Many, Name, NoMemory, text_of_lines};
-
-/// The word by which words and texts name a kind.
-fn kind_word(kind: Kind) -> &'static str
-    ensures { result.now ≡ kind_word kind }
-{
-    match kind {
-        Kind::Extension => "extension",
-        Kind::Parameter => "parameter",
-        Kind::Instruction => "instruction",
-        Kind::Csr => "csr",
-        Kind::Functions => "functions",
-        Kind::Config => "config",
-    }
-}
+use udb_base::{Chars, Kind, Lines, Many, Name, NoMemory, kind_word, text_of_lines};
 
 // The text of one line.
 fn line_text(alloc: Global, line: Chars) -> Result<Chars, NoMemory>

@@ -1,4 +1,4 @@
-use Rattle.db_cases.proofs.Keys.{distinct_pairs}
+use Rattle.udb_bundle.proofs.Keys.{distinct_pairs}
 use Rattle.db_cases.proofs.rows_answer.Goals as goal
 
 pub new-requires : goal.new-requires

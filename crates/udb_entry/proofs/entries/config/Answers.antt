@@ -1,7 +1,15 @@
-use Rattle.std.proofs.Common.{◌∙◌, ap, map}
-use Rattle.udb_entry.specs.Entries.{kind_of, given_of}
-use Rattle.udb_entry.proofs.EntryLemmas.{config_is}
+use Rattle.std.proofs.Common.{ap, ◌∙◌, true, codes}
+use Rattle.udb_entry.specs.Keys.{flag_at}
+use Rattle.udb_base.specs.declared.kinds.Kind.TheVariants as kind
+use Rattle.udb_entry.specs.Entries as spec
+use Rattle.udb_entry.specs.declared.answers.Entry.TheVariants as entry
+use Rattle.udb_entry.proofs.ReadLemmas.{gained, failed}
 use Rattle.udb_entry.proofs.entries.config.Goals as goal
 
-pub returns : goal.returns
-returns c = config_is c.args.tree.now c.in_ok-own_name.ensures c.in_ok-text_under.ensures (c.kind_of.ensures ∙ ap kind_of c.text_at.ensures) (c.in_ok-values_given.ensures ∙ ap (map given_of) c.pairs_at.ensures) c.in_ok-members_under.ensures c.in_ok-members_under-2.ensures c.flag_at.ensures c.in_ok-implemented_under.ensures
+pub returns-in-Ok : goal.returns-in-Ok
+returns-in-Ok c =
+    let made = gained (λ v. entry.Config (spec.config_with (spec.config_kind c.args.tree.now) (flag_at c.args.tree.now (codes "additional_extensions") true) v)) _ _ c.in-Ok.parts _ (c.both_read.ensures _ _ _ _ c.members-mandatory.ensures (c.both_read-inner.ensures _ _ _ _ c.members-prohibited.ensures (c.both_read-tail.ensures _ _ _ _ c.implemented-implemented.ensures (c.both_read-texts.ensures _ _ _ _ c.titles.ensures c.givens.ensures)))) c.in-Ok.is in
+    (made.0, ap entry.Config c.config_with.ensures ∙ made.1)
+
+pub returns-in-Err : goal.returns-in-Err
+returns-in-Err c = failed _ _ (spec.entry_of kind.Config c.args.tree.now) _ c.in-Err.fault (c.both_read.ensures _ _ _ _ c.members-mandatory.ensures (c.both_read-inner.ensures _ _ _ _ c.members-prohibited.ensures (c.both_read-tail.ensures _ _ _ _ c.implemented-implemented.ensures (c.both_read-texts.ensures _ _ _ _ c.titles.ensures c.givens.ensures)))) c.in-Err.is

@@ -1,6 +1,6 @@
 use Rattle.std.proofs.Common.{◌≡◌, IsTrue, get_or, arith, subst}
 use Rattle.std.proofs.lemmas.List.Elements.{All-more}
-use Rattle.udb_entry.specs.First.{is_read_kind}
+use Rattle.db_spec.specs.Kinds.{is_read_kind}
 use Rattle.udb_lawful.proofs.Lists.{all-of}
 use Rattle.udb_search.proofs.commands.are_read.Goals as goal
 

@@ -1,5 +1,5 @@
 use Rattle.std.proofs.Common.{All, IsTrue, take}
-use Rattle.udb_entry.specs.First.{is_read_kind}
+use Rattle.db_spec.specs.Kinds.{is_read_kind}
 use Rattle.udb_search.proofs.commands.are_read.Given as goal
 
 abbrev pub invariant-loop-row : goal.invariant-loop-row

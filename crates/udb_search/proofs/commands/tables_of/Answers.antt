@@ -2,9 +2,9 @@ use Rattle.std.proofs.Common.{IsTrue, subst}
 use Rattle.std.proofs.lemmas.List.Sorted.{All-permutation}
 use Rattle.std.specs.List.Sorted.{IsPermutation}
 use Rattle.udb_base.specs.declared.rows.Row.{Row}
-use Rattle.udb_entry.specs.First.{is_read_kind}
+use Rattle.db_spec.specs.Kinds.{is_read_kind}
 use Rattle.db_spec.specs.First.{HasReadKinds}
-use Rattle.udb_search.proofs.Keys.{distinct_pairs}
+use Rattle.udb_bundle.proofs.Keys.{distinct_pairs}
 use Rattle.udb_search.proofs.commands.tables_of.Goals as goal
 
 pub new-requires : goal.new-requires

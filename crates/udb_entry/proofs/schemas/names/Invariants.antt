@@ -1,5 +1,0 @@
-use Rattle.std.proofs.Common.{◌≡◌, ◌++◌, drop, map}
-use Rattle.udb_entry.proofs.schemas.names.Given as goal
-
-abbrev pub invariant-loop-key : goal.invariant-loop-key
-invariant-loop-key l = l.names ++ map (λ k. k.now) (drop l.key-index l.keys) ≡ map (λ k. k.now) l.keys
