@@ -1,0 +1,5 @@
+pub mod Bits
+pub mod Distinct
+pub mod ProgramTests
+pub mod StateTests
+pub mod VariableTests

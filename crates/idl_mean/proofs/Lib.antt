@@ -1,0 +1,13 @@
+pub mod FormSteps
+pub mod StatementSteps
+pub mod Sequences
+pub mod Scenes
+pub mod CallSteps
+pub mod Binary
+pub mod Blocks
+pub mod FieldWrites
+pub mod WriteSteps
+pub mod Changes
+pub mod StatesKept
+pub mod Operations
+pub mod Places
