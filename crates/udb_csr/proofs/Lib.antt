@@ -1,0 +1,3 @@
+pub mod WidthLaws
+pub mod FaultLaws
+pub mod ListLaws

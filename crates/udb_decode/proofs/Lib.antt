@@ -1,0 +1,3 @@
+pub mod PatternLaws
+pub mod KeptLaws
+pub mod NameLaws
