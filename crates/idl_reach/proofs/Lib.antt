@@ -1,0 +1,3 @@
+pub mod DeedForms
+pub mod LastOne
+pub mod MarkedFunctions

@@ -1,0 +1,3 @@
+pub mod FormulaForms
+pub mod KindLemmas
+pub mod VisibleNames

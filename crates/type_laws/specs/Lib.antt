@@ -1,0 +1,8 @@
+pub mod Kinds
+pub mod Literals
+pub mod LiteralLaws
+pub mod Worlds
+pub mod Callees
+pub mod Soundness
+pub mod Strict
+pub mod Laws
