@@ -1,3 +1,4 @@
 pub mod WidthLaws
 pub mod FaultLaws
 pub mod ListLaws
+pub mod NumberLaws
