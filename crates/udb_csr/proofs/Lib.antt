@@ -2,3 +2,4 @@ pub mod WidthLaws
 pub mod FaultLaws
 pub mod ListLaws
 pub mod NumberLaws
+pub mod ResetLaws
