@@ -24,3 +24,5 @@ pub mod StatementTargets
 pub mod StatementParts
 pub mod StatementRegisters
 pub mod Statements
+pub mod Ends
+pub mod Reach
