@@ -27,3 +27,4 @@ pub mod StatementRegisters
 pub mod Statements
 pub mod Ends
 pub mod Reach
+pub mod Bodies
