@@ -19,7 +19,7 @@ use Rattle.idl_spec.specs.Settings.{Setting, Scope, Flow, goes_on, returns, numb
 use Rattle.idl_spec.specs.Mean.{in_shape, mean_stmts}
 use Rattle.idl_spec.specs.Programs.{returned, run_stmts, arguments, result}
 use Rattle.idl_spec.specs.Deeds.{deeds_of, ends_in_return}
-use Rattle.idl_spec.specs.Demands.{Issue, Visible, mismatch_unless, width_issues, shape_issues}
+use Rattle.idl_spec.specs.Demands.{Issue, Visible, View, mismatch_unless, width_issues, shape_issues}
 use Rattle.idl_spec.specs.Checks.{argument_names, visible_local, are_fresh, result_shape_issues}
 use Rattle.type_laws.specs.Kinds.{bound, HasKind, IsLocal, Suits, SuitAll, IsResult, Mode, StateOk, Good, DeedOk, Matches, Round, view_in, Passes, AllPass}
 use Rattle.type_laws.specs.Literals.{AreSmall, numbers_of}
@@ -132,23 +132,23 @@ module _ (e : Setting) (mode : Mode) (round : Round) where
 
   -- ---- what the header of a function asks
 
-  sized_shape : (shape : Shape) (known : List Cond) → Here e known → Passes e known (shape_issues (view_in e mode round []) shape) → IsSized e shape
-  sized_shape (sh.Bits signed width) known here h = range e known 1 128 width here (back e known (width_issues (view_in e mode round []) width) _ h)
-  sized_shape sh.Boolean known here h = tt
-  sized_shape (sh.Enum k) known here h = tt
+  sized_shape : (view : View) (shape : Shape) (known : List Cond) → Here e known → Passes e known (shape_issues view shape) → IsSized e shape
+  sized_shape view (sh.Bits signed width) known here h = range e known 1 128 width here (back e known (width_issues view width) _ h)
+  sized_shape view sh.Boolean known here h = tt
+  sized_shape view (sh.Enum k) known here h = tt
 
-  pub sized_result : (shape : Option Shape) (known : List Cond) → Here e known → Passes e known (result_shape_issues (view_in e mode round []) shape) → ResultSized e mode shape
-  sized_result None known here h = tt
-  sized_result (Some shape) known here h = sized_shape shape known here h
+  pub sized_result : (view : View) (shape : Option Shape) (known : List Cond) → Here e known → Passes e known (result_shape_issues view shape) → ResultSized e mode shape
+  sized_result view None known here h = tt
+  sized_result view (Some shape) known here h = sized_shape view shape known here h
 
   clear_name : (x : Bool) (o : Option ParamSpace) → not (x || is_some o) ≡ true → o ≡ None
   clear_name true o h = absurd (cc)
   clear_name false None h = refl
   clear_name false (Some p) h = absurd (cc)
 
-  pub are_arguments : (as_ : List Argument) (known : List Cond) → Here e known → Passes e known (flat_map (λ a. shape_issues (view_in e mode round []) a.shape) as_) → are_fresh e.space.params as_ ≡ true → Each (IsArgument e mode) as_
-  are_arguments [] known here h fresh = tt
-  are_arguments (a ∷ more) known here h fresh =
+  pub are_arguments : (view : View) (as_ : List Argument) (known : List Cond) → Here e known → Passes e known (flat_map (λ a. shape_issues view a.shape) as_) → are_fresh e.space.params as_ ≡ true → Each (IsArgument e mode) as_
+  are_arguments view [] known here h fresh = tt
+  are_arguments view (a ∷ more) known here h fresh =
       let b = both_true (not (list_any (λ z. same_bytes z.name a.name) more || is_some (parameter_named e.space.params a.name))) (are_fresh e.space.params more) fresh in
-      let issues = shape_issues (view_in e mode round []) a.shape in
-      ((sized_shape a.shape known here (front e known issues _ h), clear_name (list_any (λ z. same_bytes z.name a.name) more) (parameter_named e.space.params a.name) b.0), are_arguments more known here (back e known issues _ h) b.1)
+      let issues = shape_issues view a.shape in
+      ((sized_shape view a.shape known here (front e known issues _ h), clear_name (list_any (λ z. same_bytes z.name a.name) more) (parameter_named e.space.params a.name) b.0), are_arguments view more known here (back e known issues _ h) b.1)

@@ -28,3 +28,4 @@ pub mod Statements
 pub mod Ends
 pub mod Reach
 pub mod Bodies
+pub mod FittedBodies
