@@ -29,3 +29,5 @@ pub mod Ends
 pub mod Reach
 pub mod Bodies
 pub mod FittedBodies
+pub mod Moves
+pub mod ProgramFunctions
