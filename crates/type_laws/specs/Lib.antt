@@ -1,5 +1,6 @@
 pub mod Kinds
 pub mod Literals
+pub mod Given
 pub mod LiteralLaws
 pub mod Worlds
 pub mod Callees
