@@ -24,3 +24,4 @@ pub mod StatementTargets
 pub mod StatementParts
 pub mod StatementRegisters
 pub mod Statements
+pub mod GivenParams
