@@ -25,3 +25,5 @@ pub mod StatementParts
 pub mod StatementRegisters
 pub mod Statements
 pub mod GivenParams
+pub mod GivenBits
+pub mod GivenFields
