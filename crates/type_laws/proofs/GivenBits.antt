@@ -1,34 +1,23 @@
 -- What `$bits` counts of a variable: the bits of the one that stands for the registers.
-use Rattle.std.proofs.Common.{◌≡◌, ◌≢◌, ◌<◌, ◌+◌, ◌++◌, ◌⊎◌, inl, inr, cond, ◌==◌, ℕ, suc, Bool, true, false, List, [], ◌∷◌, map, Option, None, Some, All, length, refl, sym, ap, ◌∙◌, subst, arith}
-use Rattle.std.specs.Prelude.{◌&&◌, AllPairs, filter, filter_map, flat_map, find, sum_by, option_map, option_and_then, if◌then◌else◌}
-use Rattle.std.specs.List.{cons_option}
+use Rattle.std.proofs.Common.{◌≡◌, ◌≢◌, ◌++◌, ◌⊎◌, inl, inr, ◌==◌, ℕ, suc, Bool, true, false, List, [], ◌∷◌, map, None, Some, All, refl, sym, ap, ◌∙◌, subst, arith}
+use Rattle.std.specs.Prelude.{AllPairs, flat_map, sum_by, if◌then◌else◌}
 use Rattle.std.specs.Cmp.Lexicographic.{bytes_decides}
 use Rattle.std.proofs.lemmas.Bool.{false≢true, eqb-true}
-use Rattle.std.proofs.lemmas.Option.{none-some}
 use Rattle.std.proofs.lemmas.List.Elements.{All-head, All-tail, filter_passes}
 use Rattle.std.proofs.lemmas.List.Kept.{AllPairs-filter}
 use Rattle.std.proofs.lemmas.List.Sums.{sum_by-cons}
 use Rattle.std.proofs.Math.Nat.{add-zero}
 use Rattle.udb_base.specs.declared.names.Name.{Name}
-use Rattle.udb_base.specs.declared.spaces.Space.{Space}
-use Rattle.udb_base.specs.declared.spaces.Full.{Full}
-use Rattle.udb_spec.specs.Conditions.{same_bytes, holds}
-use Rattle.udb_spec.specs.Spaces.{mxlen}
+use Rattle.udb_spec.specs.Conditions.{same_bytes}
 use Rattle.idl_tree.specs.declared.programs.Base.{Base}
 use Rattle.idl_tree.specs.declared.programs.Base.TheVariants as base
-use Rattle.idl_tree.specs.declared.programs.BitPart.{BitPart}
 use Rattle.idl_tree.specs.declared.programs.Variable.{Variable}
-use Rattle.idl_tree.specs.declared.programs.FieldPlaces.{FieldPlaces}
-use Rattle.idl_tree.specs.declared.programs.FieldPlaces.TheVariants as places
 use Rattle.idl_tree.specs.declared.programs.FieldBodies.{FieldBodies}
 use Rattle.idl_tree.specs.declared.programs.CsrBody.{CsrBody}
-use Rattle.idl_tree.specs.declared.programs.Program.{Program}
 use Rattle.idl_width.specs.declared.scopes.BitsOf.{BitsOf}
-use Rattle.idl_width.specs.Numbers.{same_csr, is_named, bits_for, bits_among}
-use Rattle.idl_forms.specs.Ready.{AreLawfulVariables, IsLawfulProgram, Meet}
-use Rattle.idl_spec.specs.Fields.{Placed, part_width, is_for, place_for, placed, layout, csr_named, placed_named, present_field, variable_width, variables_for, variable_bits, width_or_none, field_bits, bits_scope}
-use Rattle.type_laws.proofs.Outcomes.{both_true, same_some}
-use Rattle.type_laws.proofs.GivenParams.{found_passes}
+use Rattle.idl_width.specs.Numbers.{bits_for, bits_among}
+use Rattle.idl_forms.specs.Ready.{AreLawfulVariables, Meet}
+use Rattle.idl_spec.specs.Fields.{is_for, variable_width, variables_for, variable_bits, field_bits}
 
 -- ---- lists whose elements differ by pairs
 

@@ -24,7 +24,7 @@ use Rattle.idl_spec.specs.Harts.{State, FieldValue, is_field, field_number}
 use Rattle.idl_spec.specs.Fields.{Placed, part_width, place_for, placed, layout, csr_named, placed_named, present_field, variable_bits, width_or_none, field_bits, bits_scope}
 use Rattle.idl_spec.specs.Programs.{HoldFields, present_fields, IsState}
 use Rattle.type_laws.specs.Worlds.{HasNumber}
-use Rattle.type_laws.proofs.Outcomes.{both_true, same_some}
+use Rattle.type_laws.proofs.Outcomes.{same_some}
 use Rattle.type_laws.proofs.GivenParams.{found_passes}
 use Rattle.type_laws.proofs.GivenBits.{pairs_first, pairs_rest, at_width, past_variables}
 
@@ -102,7 +102,7 @@ module _ (space : Space) (full : Full) where
 
 -- ---- the CSR of a name
 
-abbrev scopes_of : List CsrBody → List BitsOf
+abbrev pub scopes_of : List CsrBody → List BitsOf
 scopes_of cs = flat_map (λ c. map (field_bits c.name) c.fields) cs
 
 module _ (r : ℕ) (csr : Name) (name : List ℕ) where
@@ -144,7 +144,7 @@ in_layout : (space : Space) (full : Full) (c : CsrBody) (field : List ℕ) (p : 
 unfolding layout
 in_layout space full c field p h = among_placed space full c field p (holds space full c.present) h
 
-scope_is : (program : Program) (variables : List Variable) → bits_scope program variables ≡ map (variable_bits variables) variables ++ scopes_of program.csrs
+pub scope_is : (program : Program) (variables : List Variable) → bits_scope program variables ≡ map (variable_bits variables) variables ++ scopes_of program.csrs
 unfolding bits_scope
 scope_is program variables = refl
 

@@ -17,21 +17,20 @@ use Rattle.udb_base.specs.declared.spaces.ParamSpace.{ParamSpace}
 use Rattle.udb_base.specs.declared.spaces.Space.{Space}
 use Rattle.udb_base.specs.declared.spaces.Full.{Full}
 use Rattle.udb_spec.specs.Conditions.{same_bytes, holds, value_of, value_among}
-use Rattle.udb_spec.specs.Spaces.{InDomain, IsChoice, IsValue, Valid, number_or, mxlen}
+use Rattle.udb_spec.specs.Spaces.{InDomain, IsChoice, IsValue, Valid, number_or}
 use Rattle.udb_spec.specs.Lawful.{ListsWidths, IsLawfulParam, Lawful}
 use Rattle.idl_tree.specs.declared.widths.Width.{Width}
 use Rattle.idl_tree.specs.declared.widths.Width.TheVariants as wd
 use Rattle.idl_width.specs.Numbers.{clip}
 use Rattle.idl_width.specs.NumberLaws.{number-Number, number-Word}
-use Rattle.idl_spec.specs.Values.{Value, bits, plain, least_width}
+use Rattle.idl_spec.specs.Values.{Value, plain, least_width}
 use Rattle.idl_spec.specs.Shapes.{of_bits, parameter_named, domain_kind, greatest, register_width}
 use Rattle.idl_spec.specs.Fields.{bits_scope}
-use Rattle.idl_spec.specs.Settings.{Setting, registers, number_of_width, parameter_value, given_value}
+use Rattle.idl_spec.specs.Settings.{Setting, registers, number_of_width, given_value}
 use Rattle.idl_spec.specs.Forms.{choice_among}
-use Rattle.idl_spec.specs.Formulas.{lists_extension}
-use Rattle.type_laws.specs.Given.{IsReadDomain, IsReadSpace}
+use Rattle.type_laws.specs.Given.{IsReadDomain}
 use Rattle.type_laws.specs.Kinds.{IsBits, HasKind, Registers}
-use Rattle.type_laws.specs.Worlds.{InRange, HasParameter, HasChoice}
+use Rattle.type_laws.specs.Worlds.{InRange, HasParameter}
 use Rattle.type_laws.proofs.Outcomes.{same_some}
 use Rattle.type_laws.proofs.Widths.{number_is}
 use Rattle.type_laws.proofs.Sides.{in_least_width}

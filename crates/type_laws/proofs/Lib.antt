@@ -27,3 +27,4 @@ pub mod Statements
 pub mod GivenParams
 pub mod GivenBits
 pub mod GivenFields
+pub mod GivenWorlds
