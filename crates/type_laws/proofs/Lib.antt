@@ -31,3 +31,7 @@ pub mod Bodies
 pub mod FittedBodies
 pub mod Moves
 pub mod ProgramFunctions
+pub mod GivenParams
+pub mod GivenBits
+pub mod GivenFields
+pub mod GivenWorlds
