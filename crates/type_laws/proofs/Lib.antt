@@ -15,6 +15,7 @@ pub mod Lists
 pub mod Calls
 pub mod Tells
 pub mod Tests
+pub mod TestForms
 pub mod Strict
 pub mod StatementFlows
 pub mod StatementForms

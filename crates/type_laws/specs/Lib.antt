@@ -3,6 +3,7 @@ pub mod Literals
 pub mod LiteralLaws
 pub mod Worlds
 pub mod Callees
+pub mod Software
 pub mod Soundness
 pub mod Strict
 pub mod Laws
