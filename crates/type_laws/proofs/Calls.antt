@@ -34,7 +34,7 @@ use Rattle.type_laws.proofs.Sound.{Stands, Sound, names_in, checks_in, clean_par
 use Rattle.type_laws.proofs.Equalities.{by_kind}
 use Rattle.type_laws.proofs.Lists.{map_seconds, map_kinds, HasKinds, AreSound, are_sound}
 
-enum_is : (k l : EnumKind) → same_enum k l ≡ true → k ≡ l
+pub enum_is : (k l : EnumKind) → same_enum k l ≡ true → k ≡ l
 enum_is PrivilegeMode PrivilegeMode h = refl
 enum_is ExceptionCode ExceptionCode h = refl
 enum_is CsrFieldType CsrFieldType h = refl

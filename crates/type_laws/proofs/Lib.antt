@@ -16,6 +16,9 @@ pub mod Calls
 pub mod Tells
 pub mod Tests
 pub mod TestForms
+pub mod AlikeKinds
+pub mod AlikeShapes
+pub mod Choices
 pub mod Strict
 pub mod StatementFlows
 pub mod StatementForms
