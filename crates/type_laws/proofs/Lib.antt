@@ -19,6 +19,8 @@ pub mod TestForms
 pub mod AlikeKinds
 pub mod AlikeShapes
 pub mod Choices
+pub mod Addresses
+pub mod Expressions
 pub mod Strict
 pub mod StatementFlows
 pub mod StatementForms
