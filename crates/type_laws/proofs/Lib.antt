@@ -21,7 +21,6 @@ pub mod AlikeShapes
 pub mod Choices
 pub mod Addresses
 pub mod Expressions
-pub mod Strict
 pub mod StatementFlows
 pub mod StatementForms
 pub mod Loops
