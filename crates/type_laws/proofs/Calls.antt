@@ -78,7 +78,7 @@ module _ (e : Setting) (mode : Mode) (round : Round) where
     pub suit : arguments_suit function.arguments kinds ≡ true
     pub allowed : (if is_in_field mode then reaches_fields_alone (view_in e mode round []) name else true) ≡ true
 
-  abbrev issues_of : Name → List (Option Kind) → Option Function → List Issue
+  abbrev pub issues_of : Name → List (Option Kind) → Option Function → List Issue
   issues_of name kinds o = elim o [
     | None ↦ unknown_name name ∷ []
     | Some f ↦ (if is_some (function_named round.before name) then [] else later_function name ∷ [])

@@ -28,4 +28,5 @@ pub mod StatementWrites
 pub mod StatementTargets
 pub mod StatementParts
 pub mod StatementRegisters
+pub mod StatementCalls
 pub mod Statements
