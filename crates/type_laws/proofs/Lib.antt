@@ -17,6 +17,11 @@ pub mod Tells
 pub mod Tests
 pub mod TestForms
 pub mod Strict
+pub mod AlikeKinds
+pub mod AlikeShapes
+pub mod Choices
+pub mod Addresses
+pub mod Expressions
 pub mod StatementFlows
 pub mod StatementForms
 pub mod Loops
@@ -24,6 +29,7 @@ pub mod StatementWrites
 pub mod StatementTargets
 pub mod StatementParts
 pub mod StatementRegisters
+pub mod StatementCalls
 pub mod Statements
 pub mod Ends
 pub mod Reach

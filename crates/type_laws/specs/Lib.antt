@@ -6,5 +6,4 @@ pub mod Worlds
 pub mod Callees
 pub mod Software
 pub mod Soundness
-pub mod Strict
 pub mod Laws
