@@ -16,7 +16,6 @@ pub mod Calls
 pub mod Tells
 pub mod Tests
 pub mod TestForms
-pub mod Strict
 pub mod AlikeKinds
 pub mod AlikeShapes
 pub mod Choices
