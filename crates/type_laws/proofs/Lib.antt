@@ -29,4 +29,5 @@ pub mod StatementTargets
 pub mod StatementParts
 pub mod StatementRegisters
 pub mod StatementCalls
+pub mod SoftWrites
 pub mod Statements
