@@ -30,4 +30,5 @@ pub mod StatementParts
 pub mod StatementRegisters
 pub mod StatementCalls
 pub mod SoftWrites
+pub mod FieldNames
 pub mod Statements
