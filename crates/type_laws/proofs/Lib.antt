@@ -31,4 +31,5 @@ pub mod StatementRegisters
 pub mod StatementCalls
 pub mod SoftWrites
 pub mod FieldNames
+pub mod StatementFields
 pub mod Statements
