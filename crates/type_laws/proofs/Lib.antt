@@ -33,3 +33,4 @@ pub mod SoftWrites
 pub mod FieldNames
 pub mod StatementFields
 pub mod Statements
+pub mod Grounded
