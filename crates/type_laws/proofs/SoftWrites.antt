@@ -1,6 +1,6 @@
 -- Writes of CSRs as software makes them.
-use Rattle.std.proofs.Common.{◌≡◌, ◌<◌, ◌^◌, ◌/◌, ◌%◌, ℕ, Bool, List, [], ◌∷◌, ◌++◌, Option, None, Some, refl, sym, subst}
-use Rattle.std.specs.Prelude.{◌==◌, IfSome, if◌then◌else◌}
+use Rattle.std.proofs.Common.{◌≡◌, ◌<◌, ◌^◌, ◌/◌, ◌%◌, ℕ, List, [], ◌∷◌, ◌++◌, Option, None, Some, refl, sym, subst}
+use Rattle.std.specs.Prelude.{◌==◌, IfSome}
 use Rattle.idl_tree.specs.declared.expressions.Expr.{Expr}
 use Rattle.idl_tree.specs.declared.statements.Stmt.TheVariants as st
 use Rattle.idl_tree.specs.declared.programs.CsrBody.{CsrBody}
@@ -9,8 +9,8 @@ use Rattle.idl_bits.specs.Number.{number}
 use Rattle.idl_bits.proofs.Modulo.{pattern_of-lt}
 use Rattle.idl_spec.specs.Harts.{State, done, or_stuck}
 use Rattle.idl_spec.specs.Shapes.{Kind}
-use Rattle.idl_spec.specs.Settings.{Setting, Scope, Flow, goes_on, registers}
-use Rattle.idl_spec.specs.Forms.{Addressed, addressed, address_of, illegal}
+use Rattle.idl_spec.specs.Settings.{Setting, Scope, goes_on, registers}
+use Rattle.idl_spec.specs.Forms.{addressed, address_of, illegal}
 use Rattle.idl_spec.specs.Mean.{mean_expr, soft_write}
 use Rattle.idl_spec.specs.MeanLaws.{runs-SoftWrite}
 use Rattle.idl_spec.specs.Programs.{IsState}
