@@ -11,7 +11,6 @@ use Rattle.udb_base.specs.declared.spaces.Domain.TheVariants as d
 use Rattle.udb_base.specs.declared.spaces.ParamSpace.{ParamSpace}
 use Rattle.udb_base.specs.declared.spaces.Space.{Space}
 use Rattle.udb_spec.specs.Conditions.{same_bytes}
-use Rattle.idl_tree.specs.Each.{Each}
 use Rattle.idl_tree.specs.declared.statements.Stmt.{Stmt}
 use Rattle.idl_tree.specs.declared.programs.Variable.{Variable}
 use Rattle.idl_tree.specs.declared.programs.Body.{Body}

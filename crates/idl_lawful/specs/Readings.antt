@@ -1,7 +1,6 @@
 -- Tests of what was read, as the code makes them.
 use Rattle.std.specs.Prelude.{◌&&◌, Bool, true, false, not, List, [], Option, None, Some}
 use Rattle.std.specs.List.{list_all, list_any}
-use Rattle.udb_base.specs.declared.names.Name.{Name}
 use Rattle.udb_base.specs.declared.spaces.Domain.{Domain}
 use Rattle.udb_base.specs.declared.spaces.Domain.TheVariants as d
 use Rattle.udb_base.specs.declared.spaces.ParamSpace.{ParamSpace}

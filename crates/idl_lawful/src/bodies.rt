@@ -3,7 +3,9 @@
 ghost use Rattle.std.specs.Prelude.{◌≡◌, ◌↔◌, IsTrue};
 ghost use Rattle.std.specs.List.{list_all};
 ghost use Rattle.type_laws.specs.Given.{IsReadBody, IsBareProgram};
-ghost use Rattle.idl_lawful.specs.Readings.{are_apart, has_bare_fields, is_bare_body, is_bare_field, is_bare_function, is_bare_if_any, is_bare_kind, is_bare_program, is_bare_reset, is_parameter, is_read_body};
+ghost use Rattle.idl_lawful.specs.Readings.{are_apart, is_parameter, is_read_body};
+ghost use Rattle.idl_lawful.specs.Readings.{is_bare_body, is_bare_if_any, is_bare_kind, is_bare_reset};
+ghost use Rattle.idl_lawful.specs.Readings.{has_bare_fields, is_bare_field, is_bare_function, is_bare_program};
 
 use crate::literals::are_small_statements;
 use idl_tree::{Body, CsrBody, FieldBodies, FieldKind, Function, Program, ResetValue, Variable};
