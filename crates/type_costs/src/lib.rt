@@ -1,0 +1,7 @@
+//! Whether the cost of a body, a bound on how much a run of it can take, passes the one that typing
+//! allows.
+#![tactic(auto)]
+
+mod capped;
+mod names;
+mod turns;
