@@ -1,12 +1,12 @@
 -- The greatest number of turns over all listings, parameter by parameter.
-use Rattle.std.proofs.Common.{◌≡◌, ◌++◌, ◌∷◌, [], ℕ, max, min, List, map, None, refl, sym, ap, ◌∙◌, append_assoc, append-nil}
+use Rattle.std.proofs.Common.{◌≡◌, ◌++◌, ◌∷◌, [], ℕ, max, min, List, map, Option, None, refl, sym, ap, ◌∙◌, append_assoc, append-nil, length, arith}
 use Rattle.std.specs.Prelude.{fold, flat_map}
-use Rattle.std.proofs.lemmas.List.Folds.{fold-map}
-use Rattle.std.proofs.lemmas.List.Sums.{fold-append}
+use Rattle.std.proofs.Math.Nat.{min_comm}
+use Rattle.udb_base.specs.declared.versions.Version.{Version}
 use Rattle.udb_base.specs.declared.conditions.Value.{Value}
 use Rattle.udb_base.specs.declared.spaces.ParamSpace.{ParamSpace}
 use Rattle.udb_base.specs.declared.spaces.Full.{Full}
-use Rattle.idl_spec.specs.Costs.{listings, greatest_turns}
+use Rattle.idl_spec.specs.Costs.{listings, turns_under, greatest_turns}
 use Rattle.idl_spec.specs.Fields.{bits_scope}
 use Rattle.type_costs.specs.declared.turns.Bounds.{Bounds}
 use Rattle.type_costs.specs.Turns.{names_of, turns_in, values_for, with_values, with_value, greatest_from, greatest_over}
@@ -37,9 +37,10 @@ module _ (b : Bounds) where
       ∙ ap (λ n. over full n (flat_map (λ x. map (λ xs. x ∷ xs) (left ps)) vs)) (over-value full v before (left ps))
       ∙ over-values ps full (over (with_value full v) before (left ps)) vs
 
-  pub from-none : (full : Full) (before : ℕ) → greatest_from b [] full before ≡ max before (turns_in b full)
+  pub from-none : (ps : List ParamSpace) (full : Full) (before : ℕ) → length ps ≡ 0 → greatest_from b ps full before ≡ max before (turns_in b full)
   unfolding greatest_from
-  from-none full before = ap (λ xs. max before (turns_in b (record { extensions = full.extensions; params = xs }))) (append-nil full.params)
+  from-none (p ∷ ps) full before h = absurd (omega arith)
+  from-none [] full before h = ap (λ xs. max before (turns_in b (record { extensions = full.extensions; params = xs }))) (append-nil full.params)
 
   pub from-param : (p : ParamSpace) (ps : List ParamSpace) (full : Full) (before : ℕ) → greatest_from b (p ∷ ps) full before ≡ greatest_over b ps full (values_for b p) before
   unfolding greatest_from
@@ -47,10 +48,15 @@ module _ (b : Bounds) where
 
 pub ruleset listing_laws = (from-none, from-param)
 
-pub turns-are : (b : Bounds) → b.scope.now ≡ bits_scope b.program.now b.variables.now
-    → min 1024 (greatest_from b b.space.now.params (record { extensions = map (λ x. None) b.space.now.extensions; params = [] }) 0)
-    ≡ greatest_turns b.space.now b.program.now b.variables.now b.from.now b.to.now
+pub turns-are : (b : Bounds) (choices : List (Option Version)) (values : List Value) (ps : List ParamSpace) (n : ℕ) → b.scope.now ≡ bits_scope b.program.now b.variables.now
+    → choices ≡ map (λ x. None) b.space.now.extensions → values ≡ [] → ps ≡ b.space.now.params
+    → n ≡ greatest_from b ps (record { extensions = choices; params = values }) 0
+    → min n 1024 ≡ greatest_turns b.space.now b.program.now b.variables.now b.from.now b.to.now
 unfolding greatest_from greatest_turns
-turns-are b h = ?
-
-pub ruleset turn_laws = (turns-are)
+turns-are b choices values ps n scope none empty all is =
+    min_comm n 1024
+    ∙ ap (min 1024)
+    (is ∙ ap (λ cs. greatest_from b ps (record { extensions = cs; params = values }) 0) none
+    ∙ ap (λ xs. greatest_from b ps (record { extensions = map (λ x. None) b.space.now.extensions; params = xs }) 0) empty
+    ∙ ap (λ qs. greatest_from b qs (record { extensions = map (λ x. None) b.space.now.extensions; params = [] }) 0) all)
+    ∙ ap (λ s. min 1024 (fold max 0 (map (turns_under b.space.now s b.from.now b.to.now) (listings (names_of b.program.now b.variables.now b.from.now b.to.now) b.space.now.params)))) scope

@@ -67,12 +67,7 @@ fn field_by_base(program: &Program, csr: &Name, field: &Name) -> bool
 }
 
 // Whether the bits of a variable, or of a field where a CSR stands, differ by the registers.
-fn bits_by_base(
-    program: &Program,
-    variables: &[Variable],
-    csr: &Option<Name>,
-    name: &Name,
-) -> bool
+fn bits_by_base(program: &Program, variables: &[Variable], csr: &Option<Name>, name: &Name) -> bool
     ensures { result ≡ bits_by_base program.now variables.now csr.now name.now }
 {
     match csr {

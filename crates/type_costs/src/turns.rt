@@ -182,7 +182,6 @@ fn no_choices(alloc: Global, extensions: &[ExtSpace]) -> Result<Choices, NoMemor
 
 /// The greatest number of turns of a loop, counted as at most 1,024: its bounds' difference over
 /// all listed values of the parameters that they name. The one refusal is want of memory.
-#[tactic(auto, using(crate::proofs::Listings::turn_laws))]
 pub(crate) fn greatest_turns(alloc: Global, bounds: &Bounds) -> Result<u64, NoMemory>
     requires scope { bounds.now.scope.now
         ≡ bits_scope bounds.now.program.now bounds.now.variables.now }
