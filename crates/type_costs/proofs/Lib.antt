@@ -1,3 +1,5 @@
 pub mod CappedSums
+pub mod ExpressionCosts
 pub mod Listings
 pub mod NamedParameters
+pub mod StatementCosts

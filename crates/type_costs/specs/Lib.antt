@@ -1,2 +1,3 @@
 pub mod Capped
+pub mod Prices
 pub mod Turns

@@ -3,5 +3,8 @@
 #![tactic(auto)]
 
 mod capped;
+mod expressions;
 mod names;
+mod prices;
+mod statements;
 mod turns;
