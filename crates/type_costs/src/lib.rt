@@ -2,9 +2,12 @@
 //! allows.
 #![tactic(auto)]
 
+mod bodies;
 mod capped;
 mod expressions;
 mod names;
 mod prices;
 mod statements;
 mod turns;
+
+pub use bodies::is_past_cost;
