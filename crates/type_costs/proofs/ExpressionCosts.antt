@@ -1,6 +1,6 @@
 -- The costs of expressions, form by form.
-use Rattle.std.proofs.Common.{◌≡◌, ◌+◌, ℕ, Bool, List, [], ◌∷◌, map, sym, ap, ◌∙◌, arith}
-use Rattle.std.specs.Prelude.{sum, sum_by}
+use Rattle.std.proofs.Common.{◌≡◌, ◌+◌, ℕ, Bool, List, sym, ap, ◌∙◌, arith}
+use Rattle.std.specs.Prelude.{sum_by}
 use Rattle.std.proofs.lemmas.List.Sums.{sum-map, sum_by_more}
 use Rattle.udb_base.specs.declared.names.Name.{Name}
 use Rattle.udb_base.specs.declared.characters.Chars.{Chars}

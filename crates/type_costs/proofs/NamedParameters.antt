@@ -1,7 +1,6 @@
 -- Which parameters widths name, form by form.
-use Rattle.std.proofs.Common.{◌≡◌, ℕ, Bool, true, false, List, [], ◌∷◌, ◌++◌, Option, None, Some, refl, sym, ap, subst, ◌∙◌}
+use Rattle.std.proofs.Common.{◌≡◌, ℕ, Bool, true, false, List, [], ◌∷◌, ◌++◌, Option, None, Some, refl, sym, ap, ◌∙◌}
 use Rattle.std.specs.Prelude.{◌||◌, ◌&&◌, not, filter, codes, if◌then◌else◌}
-use Rattle.std.specs.List.{list_any}
 use Rattle.std.specs.Cmp.Lexicographic.{same_text}
 use Rattle.std.proofs.lemmas.List.Folds.{list_any-append}
 use Rattle.udb_base.specs.Lists.{is_among}
@@ -11,9 +10,9 @@ use Rattle.idl_tree.specs.declared.widths.Width.{Width}
 use Rattle.idl_tree.specs.declared.widths.Width.TheVariants as wd
 use Rattle.idl_tree.specs.declared.programs.Variable.{Variable}
 use Rattle.idl_tree.specs.declared.programs.Program.{Program}
-use Rattle.idl_spec.specs.Costs.{named_in, named_by_both, bits_named, by_base}
+use Rattle.idl_spec.specs.Costs.{named_in, bits_named, by_base}
 use Rattle.idl_spec.specs.CostLaws as law
-use Rattle.type_costs.specs.Turns.{bits_by_base, names_of, bounds_name}
+use Rattle.type_costs.specs.Turns.{bits_by_base, bounds_name}
 
 abbrev among : Name → List Name → Bool
 among x xs = is_among same_bytes x xs

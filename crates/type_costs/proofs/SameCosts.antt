@@ -1,5 +1,5 @@
 -- Costs are the same as far as the bound where the prices that they depend on are.
-use Rattle.std.proofs.Common.{◌≡◌, ◌<◌, ◌+◌, ◌*◌, length, get_or, drop, ℕ, Bool, true, false, List, [], ◌∷◌, ◌++◌, Option, None, Some, map, refl, sym, ap, subst, ◌∙◌}
+use Rattle.std.proofs.Common.{◌≡◌, ◌<◌, ◌+◌, ◌*◌, length, get_or, drop, ℕ, Bool, true, false, List, [], ◌∷◌, ◌++◌, Option, None, Some, refl, sym, ap, ◌∙◌}
 use Rattle.std.specs.Prelude.{sum_by, find, IfSome, if◌then◌else◌}
 use Rattle.std.proofs.lemmas.List.{drop_more}
 use Rattle.std.proofs.lemmas.List.Sums.{sum_by-cons}
@@ -11,7 +11,6 @@ use Rattle.idl_tree.specs.ExprLaws.{induct-Expr}
 use Rattle.idl_tree.specs.StmtLaws.{induct-Stmt}
 use Rattle.idl_tree.specs.declared.widths.Width.{Width}
 use Rattle.idl_tree.specs.declared.expressions.Expr.{Expr}
-use Rattle.idl_tree.specs.declared.expressions.Expr.TheVariants as ex
 use Rattle.idl_tree.specs.declared.statements.Target.{Target}
 use Rattle.idl_tree.specs.declared.statements.Target.TheVariants as t
 use Rattle.idl_tree.specs.declared.statements.Stmt.{Stmt}

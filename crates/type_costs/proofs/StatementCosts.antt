@@ -1,6 +1,6 @@
 -- The costs of statements, form by form.
-use Rattle.std.proofs.Common.{◌≡◌, ◌+◌, ◌*◌, ℕ, List, [], ◌∷◌, None, Some, map, sym, ap, ◌∙◌, arith}
-use Rattle.std.specs.Prelude.{sum, sum_by}
+use Rattle.std.proofs.Common.{◌≡◌, ◌+◌, ◌*◌, ℕ, List, [], ◌∷◌, None, Some, sym, ap, ◌∙◌, arith}
+use Rattle.std.specs.Prelude.{sum_by}
 use Rattle.std.proofs.lemmas.List.Sums.{sum-map, sum_by-append, sum_by_more}
 use Rattle.udb_base.specs.declared.names.Name.{Name}
 use Rattle.idl_tree.specs.declared.widths.Width.{Width}
