@@ -40,3 +40,4 @@ pub mod GivenParams
 pub mod GivenBits
 pub mod GivenFields
 pub mod GivenWorlds
+pub mod Presence
