@@ -1,6 +1,6 @@
 -- Kinds that differ by the trees of their widths alone: what the forms make of them differs no more.
 use Rattle.std.proofs.Common.{◌≡◌, Bool, true, false, Option, None, Some, refl, sym, ap, ◌∙◌, subst}
-use Rattle.std.specs.Prelude.{◌&&◌, pos, ◌+ℤ◌, ◌-ℤ◌, ◌*ℤ◌}
+use Rattle.std.specs.Prelude.{◌&&◌, ◌+ℤ◌, ◌*ℤ◌}
 use Rattle.idl_tree.specs.declared.widths.Width.{Width}
 use Rattle.idl_tree.specs.declared.widths.Width.TheVariants as wd
 use Rattle.idl_tree.specs.declared.expressions.Unary.{Unary}

@@ -1,6 +1,6 @@
 -- The shapes of expressions under the names of a place and under the values of a scope that stands there.
-use Rattle.std.proofs.Common.{◌≡◌, ◌≤◌, ℕ, Bool, true, false, List, [], ◌∷◌, ◌++◌, map, Option, None, Some, refl, sym, ap, ◌∙◌, subst, arith}
-use Rattle.std.specs.Prelude.{option_map, option_and_then, if◌then◌else◌, pos}
+use Rattle.std.proofs.Common.{◌≡◌, ℕ, Bool, true, false, List, [], ◌∷◌, ◌++◌, map, Option, None, Some, refl, sym, ap, ◌∙◌, subst, arith}
+use Rattle.std.specs.Prelude.{option_map, option_and_then, if◌then◌else◌}
 use Rattle.idl_tree.specs.Each.{Each}
 use Rattle.udb_base.specs.declared.names.Name.{Name}
 use Rattle.udb_spec.specs.Conditions.{same_bytes}
@@ -17,7 +17,7 @@ use Rattle.idl_spec.specs.ShapeLaws.{shape-Number, shape-Sized, shape-Text, shap
 use Rattle.idl_spec.specs.Settings.{Setting, Scope, kind_of_value, variable_kinds, names_of}
 use Rattle.idl_spec.specs.Demands.{Visible}
 use Rattle.idl_spec.specs.Checks.{variable_names}
-use Rattle.type_laws.specs.Kinds.{HasKind, IsLocal, Mode, Matches, Round}
+use Rattle.type_laws.specs.Kinds.{HasKind, Mode, Matches, Round}
 use Rattle.type_laws.proofs.Widths.{number_is}
 use Rattle.type_laws.proofs.Sound.{names_in}
 use Rattle.type_laws.proofs.Worlds.{kinds, innermost_more}

@@ -13,14 +13,14 @@ use Rattle.idl_spec.specs.Values.{Value, bits, flag, member, given_text, written
 use Rattle.idl_spec.specs.Harts.{State, Outcome, done, raised, stuck, and_then}
 use Rattle.idl_spec.specs.Shapes.{Kind, of_bits, of_flag, of_member, of_given_text, of_written_text, declared_kind, choice_kind, shape}
 use Rattle.idl_spec.specs.ShapeLaws.{shape-Choice}
-use Rattle.idl_spec.specs.Settings.{Setting, Scope, number_of_width, names_of}
+use Rattle.idl_spec.specs.Settings.{Setting, number_of_width, names_of}
 use Rattle.idl_spec.specs.Forms.{in_kind}
 use Rattle.idl_spec.specs.Formulas.{claims}
 use Rattle.idl_spec.specs.Mean.{in_shape, mean_expr}
 use Rattle.idl_spec.specs.MeanLaws.{mean-Choice}
 use Rattle.idl_spec.specs.DeedLaws.{deeds-Choice}
 use Rattle.idl_spec.specs.TestPlaces.{where_true, where_false}
-use Rattle.idl_spec.specs.Demands.{Visible, kind_issues, mismatch_unless, want, suits, same_kind, flag_kind, is_choice}
+use Rattle.idl_spec.specs.Demands.{kind_issues, mismatch_unless, want, suits, same_kind, flag_kind, is_choice}
 use Rattle.idl_spec.specs.CheckLaws.{checks-Choice}
 use Rattle.type_laws.specs.Kinds.{HasKind, Mode, StateOk, Good, Round, view_in, Passes, AllPass}
 use Rattle.type_laws.specs.LiteralLaws.{numbers-Choice}

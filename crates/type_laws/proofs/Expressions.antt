@@ -1,5 +1,4 @@
 -- Every expression is sound.
-use Rattle.std.proofs.Common.{List}
 use Rattle.idl_tree.specs.declared.expressions.Unary.{Unary}
 use Rattle.idl_tree.specs.declared.expressions.Unary.TheVariants as u
 use Rattle.idl_tree.specs.declared.expressions.Binary.{Binary}

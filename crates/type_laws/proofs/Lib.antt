@@ -29,6 +29,9 @@ pub mod StatementTargets
 pub mod StatementParts
 pub mod StatementRegisters
 pub mod StatementCalls
+pub mod SoftWrites
+pub mod FieldNames
+pub mod StatementFields
 pub mod Statements
 pub mod Ends
 pub mod Reach
@@ -41,3 +44,4 @@ pub mod GivenBits
 pub mod GivenFields
 pub mod GivenWorlds
 pub mod Presence
+pub mod Grounded

@@ -21,7 +21,7 @@ use Rattle.idl_tree.specs.declared.expressions.Binary.TheVariants as b
 use Rattle.idl_tree.specs.declared.expressions.Expr.{Expr}
 use Rattle.idl_tree.specs.declared.expressions.Expr.TheVariants as ex
 use Rattle.idl_tree.specs.ExprLaws.{induct-Expr}
-use Rattle.idl_spec.specs.Values.{Value, flag}
+use Rattle.idl_spec.specs.Values.{flag}
 use Rattle.idl_spec.specs.Harts.{State, done, required}
 use Rattle.idl_spec.specs.Shapes.{parameter_named}
 use Rattle.idl_spec.specs.Settings.{Setting}

@@ -11,5 +11,6 @@ use Rattle.type_laws.specs.Soundness.{Sound}
 -- value of that kind
 abbrev pub ExpressionsAreSound : Type 0
 ExpressionsAreSound =
-    (e : Setting) (mode : Mode) (round : Round) → World e → Tested e → Callable e mode round → Software e mode
+    (e : Setting) (mode : Mode) (round : Round)
+    → World e → Tested e → Callable e mode round → Software e mode
     → (x : Expr) → Sound e mode round x
