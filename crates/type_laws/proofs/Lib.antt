@@ -45,3 +45,5 @@ pub mod GivenFields
 pub mod GivenWorlds
 pub mod Presence
 pub mod Grounded
+pub mod ProgramFields
+pub mod ProgramNumbers

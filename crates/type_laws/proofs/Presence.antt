@@ -51,25 +51,25 @@ has_map f (x ∷ xs) y (inl e) = record { from = x; has = inl refl; made = e }
 has_map f (x ∷ xs) y (inr h) = made_more (λ x y. f x ≡ y) x xs y (has_map f xs y h)
 
 has_either : {X : Type 0} (xs ys : List X) (x : X) → Has (xs ++ ys) x → Has xs x ⊎ Has ys x
-has_either [] ys x h = inr h
-has_either (z ∷ zs) ys x (inl e) = inl (inl e)
-has_either (z ∷ zs) ys x (inr h) = at (has_either zs ys x h)
+has_either {X} [] ys x h = inr h
+has_either {X} (z ∷ zs) ys x (inl e) = inl (inl e)
+has_either {X} (z ∷ zs) ys x (inr h) = at (has_either zs ys x h)
   where
     at : Has zs x ⊎ Has ys x → Has (z ∷ zs) x ⊎ Has ys x
     at (inl k) = inl (inr k)
     at (inr k) = inr k
 
 pub has_flat : {X Y : Type 0} (f : X → List Y) (xs : List X) (y : Y) → Has (flat_map f xs) y → Made (λ x y. Has (f x) y) xs y
-has_flat f [] y h = absurd h
-has_flat f (x ∷ xs) y h = at (has_either (f x) (flat_map f xs) y h) (has_flat f xs y)
+has_flat {X} {Y} f [] y h = absurd h
+has_flat {X} {Y} f (x ∷ xs) y h = at (has_either (f x) (flat_map f xs) y h) (has_flat f xs y)
   where
     at : Has (f x) y ⊎ Has (flat_map f xs) y → (Has (flat_map f xs) y → Made (λ x y. Has (f x) y) xs y) → Made (λ x y. Has (f x) y) (x ∷ xs) y
     at (inl k) more = record { from = x; has = inl refl; made = k }
     at (inr k) more = made_more (λ x y. Has (f x) y) x xs y (more k)
 
 has_filter_map : {X Y : Type 0} (f : X → Option Y) (xs : List X) (y : Y) → Has (filter_map f xs) y → Made (λ x y. f x ≡ Some y) xs y
-has_filter_map f [] y h = absurd h
-has_filter_map f (x ∷ xs) y h = at (f x) refl h (has_filter_map f xs y)
+has_filter_map {X} {Y} f [] y h = absurd h
+has_filter_map {X} {Y} f (x ∷ xs) y h = at (f x) refl h (has_filter_map f xs y)
   where
     at : (o : Option Y) → f x ≡ o → Has (cons_option o (filter_map f xs)) y → (Has (filter_map f xs) y → Made (λ x y. f x ≡ Some y) xs y) → Made (λ x y. f x ≡ Some y) (x ∷ xs) y
     at None is k more = made_more (λ x y. f x ≡ Some y) x xs y (more k)
