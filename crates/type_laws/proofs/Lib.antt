@@ -47,3 +47,4 @@ pub mod Presence
 pub mod Grounded
 pub mod ProgramFields
 pub mod ProgramNumbers
+pub mod ProgramWrites
