@@ -48,3 +48,5 @@ pub mod Grounded
 pub mod ProgramFields
 pub mod ProgramNumbers
 pub mod ProgramWrites
+pub mod SameWidths
+pub mod Fitted

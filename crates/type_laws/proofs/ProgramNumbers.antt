@@ -196,3 +196,10 @@ module _ (space : Space) (full : Full) (program : Program) (g : Ground space ful
 
   pub written_known : (n : ℕ) (s : State) → IsState space full program s → HasNumber p (written_number space full program (record { csr = c.name; number = n }) s p p.field.write)
   written_known n s state = written_of n s state p.field.write plain.write fit_parts.1.1
+
+  pub body_written : (n : ℕ) (s : State) → IsState space full program s → (body : Body) → p.field.write ≡ Some body
+      → Good (field_setting space full program (Some (record { csr = c.name; number = n }))) (in_field true) (IsGiven (field_setting space full program (Some (record { csr = c.name; number = n }))) (Some (of_bits (wd.Number 1) false)))
+      (run_stmts (field_setting space full program (Some (record { csr = c.name; number = n }))) body.statements [] s)
+  body_written n s state body is =
+      write_good n s state body (subst (λ w. IfSome w IsBareBody) is plain.write)
+      (subst (λ w. write_fits space full program there.place fits_there.field (field_presence space c p.field) w ≡ true) is fit_parts.1.1)

@@ -96,7 +96,7 @@ module _ (space : Space) (full : Full) (program : Program) where
       ram = state.ram;
     }
 
-    csr_written : (e : Setting) → e.space ≡ space → e.full ≡ full → e.program ≡ program → HasWritten e (write_csr space full program c n s)
+    pub csr_written : (e : Setting) → e.space ≡ space → e.full ≡ full → e.program ≡ program → HasWritten e (write_csr space full program c n s)
     unfolding write_csr
     csr_written e is_space is_full is_program =
         let w : Holds (write_fields space full program new s (layout space full c) s.fields) = all_written (layout space full c) (λ p h. h) s.fields state.fields in
