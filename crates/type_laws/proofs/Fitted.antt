@@ -1,34 +1,31 @@
 -- A body that fits is never stuck.
-use Rattle.std.proofs.Common.{◌≡◌, ◌≢◌, inl, inr, ◌<◌, ◌^◌, ℕ, zero, suc, Bool, true, false, List, [], ◌∷◌, ◌++◌, length, get_or, Option, None, Some, refl, sym, ap, ◌∙◌, subst, arith}
-use Rattle.std.specs.Prelude.{◌&&◌, Contains}
+use Rattle.std.proofs.Common.{◌≡◌, ◌≢◌, inl, inr, ◌<◌, ℕ, zero, suc, true, false, List, [], ◌∷◌, length, get_or, Option, None, Some, refl, sym, ap, ◌∙◌, subst, arith}
+use Rattle.std.specs.Prelude.{Contains, option_map}
 use Rattle.std.proofs.lemmas.Option.{none-some}
 use Rattle.udb_base.specs.declared.conditions.Cond.{Cond}
 use Rattle.udb_base.specs.declared.spaces.Space.{Space}
 use Rattle.udb_base.specs.declared.spaces.Full.{Full}
-use Rattle.idl_tree.specs.Each.{Each}
 use Rattle.idl_tree.specs.declared.widths.Width.TheVariants as wd
+use Rattle.idl_tree.specs.declared.widths.Shape.{Shape}
 use Rattle.idl_tree.specs.declared.programs.Body.{Body}
 use Rattle.idl_tree.specs.declared.programs.Function.{Function}
 use Rattle.idl_tree.specs.declared.programs.CsrBody.{CsrBody}
 use Rattle.idl_tree.specs.declared.programs.Program.{Program}
-use Rattle.idl_tree.specs.declared.programs.Variable.{Variable}
 use Rattle.idl_spec.specs.declared.scopes.BodyScope.TheVariants as scope
 use Rattle.idl_spec.specs.Values.{Value}
-use Rattle.idl_spec.specs.Harts.{State, Outcome, done, raised, stuck, and_then}
-use Rattle.idl_spec.specs.Shapes.{Kind, of_bits}
-use Rattle.idl_spec.specs.Fields.{Placed, layout, bits_scope}
+use Rattle.idl_spec.specs.Harts.{State, Outcome, done, raised, stuck, and_then, or_stuck}
+use Rattle.idl_spec.specs.Shapes.{Kind, of_bits, function_named}
+use Rattle.idl_spec.specs.Fields.{Placed, layout}
 use Rattle.idl_spec.specs.Settings.{Setting, NewNumber}
 use Rattle.idl_spec.specs.Deeds.{deeds_of}
-use Rattle.idl_spec.specs.ProgramLaws.{callees_of}
-use Rattle.idl_spec.specs.Programs.{IsState, bare, as_operation, as_field_write, mean, loud_setting, field_type, reset_number, run_stmts, without_value, with_value, with_functions, write_csr, quiet_setting}
+use Rattle.idl_spec.specs.ProgramLaws.{callees_of, callee_under, callee-named}
+use Rattle.idl_spec.specs.Programs.{IsState, bare, as_operation, as_function, as_field_write, mean, before, run_function, loud_setting, field_type, reset_number, run_stmts, without_value, with_value, with_functions, write_csr}
 use Rattle.idl_spec.specs.ProgramFits.{functions_fit, csrs_fit, program_fits}
-use Rattle.idl_spec.specs.Demands.{Visible}
 use Rattle.idl_spec.specs.Checks.{variable_names, outer_view, view_of}
-use Rattle.type_laws.specs.Kinds.{Mode, loud, in_field, StateOk, Good, DeedOk, Round, view_in, Passes, AllPass}
-use Rattle.type_laws.specs.Worlds.{World, Tested}
-use Rattle.type_laws.specs.Callees.{AreGood, Callable}
-use Rattle.type_laws.specs.Software.{Software, CanWrite, TakesNumbers, HasDistinctNames}
-use Rattle.type_laws.specs.Given.{IsBareBody, IsBareField}
+use Rattle.type_laws.specs.Kinds.{SuitAll, IsResult, loud, in_field, Good, DeedOk, Round, view_in, AllPass}
+use Rattle.type_laws.specs.Callees.{AreGood}
+use Rattle.type_laws.specs.Software.{CanWrite, TakesNumbers, HasDistinctNames}
+use Rattle.type_laws.specs.Given.{IsBareBody}
 use Rattle.type_laws.specs.Fitting.{IsFitting, IsFittingOperation, FittingBodiesAreNeverStuck}
 use Rattle.type_laws.proofs.Outcomes.{both_true}
 use Rattle.type_laws.proofs.Reach.{Has, each_has}
@@ -67,8 +64,6 @@ module _ (space : Space) (full : Full) (program : Program) (f : IsFitting space 
   distinct : HasDistinctNames program
   distinct = record { csrs = f.names.csrs; fields = f.names.fields }
 
-  -- ---- operations
-
   abbrev under_writes : List Function → Setting
   under_writes fs = under_functions space full program (Some (write_csr space full program)) fs
 
@@ -90,6 +85,26 @@ module _ (space : Space) (full : Full) (program : Program) (f : IsFitting space 
       (given.tested (under_writes fs) f.valid f.read (no_variables_apart space))
       callable (record { names = distinct; writes = λ h. can_write (under_writes fs) refl refl refl refl }))
       two_parts.0 f.bare.functions
+
+  not_stuck_called : (e : Setting) (shape : Option Shape) (r : Outcome (Option Value)) → Good e loud (IsResult e shape) r → r ≢ stuck
+  not_stuck_called e shape (done v t) h is = cc
+  not_stuck_called e shape (raised code tval t) h is = cc
+  not_stuck_called e shape stuck h is = absurd h
+
+  -- ---- functions
+
+  pub function_runs : (name : List ℕ) (g : Function) → function_named program.functions name ≡ Some g → (values : List Value) → SuitAll g.arguments values → (s : State) → IsState space full program s
+      → mean space full program (as_function name values) g.body s ≢ stuck
+  unfolding mean loud_setting
+  function_runs name g named values suit s state =
+      let base = bare space full program (Some (write_csr space full program)) in
+      let good = loud_calls name g named tt values suit s state in
+      let found = callee-named base program.functions name ∙ ap (option_map (callee_under base (before program.functions name))) named in
+      let there = subst (λ o. Good (under_writes program.functions) loud (IsResult (under_writes program.functions) g.result) (or_stuck o (λ c. c.run values s))) found good in
+      subst (λ o. or_stuck o (λ f. run_function (with_functions base (before program.functions name)) f g.body.statements values s) ≢ stuck) (sym named)
+      (not_stuck_called (under_writes program.functions) g.result _ there)
+
+  -- ---- operations
 
   module _ (presence : Cond) (body : Body) (o : IsFittingOperation space full program presence body) where
     abbrev e : Setting
@@ -164,6 +179,7 @@ module _ (space : Space) (full : Full) (program : Program) (f : IsFitting space 
 pub never_stuck : FittingBodiesAreNeverStuck
 never_stuck = record {
   operations = λ space full program f presence body o s state. operation_runs space full program f presence body o s state;
+  functions = λ space full program f name g named values suit s state. function_runs space full program f name g named values suit s state;
   types = λ space full program f c h p k. type_there space full program f c h p k;
   resets = λ space full program f c h p k. reset_there space full program f c h p k;
   writes = λ space full program f c h p k body is n s state. write_there space full program f c h p k body is n s state;

@@ -1,8 +1,7 @@
 -- The fields that are present, and that the condition under which their bodies are checked holds there.
 use Rattle.std.proofs.Common.{◌≡◌, ◌⊎◌, inl, inr, ℕ, Bool, true, false, List, [], ◌∷◌, ◌++◌, map, Option, None, Some, refl, sym, ap, ◌∙◌, subst, arith}
-use Rattle.std.specs.Prelude.{◌==◌, ◌&&◌, codes, pos, is_some, filter_map, flat_map, option_map, if◌then◌else◌}
+use Rattle.std.specs.Prelude.{◌==◌, codes, pos, is_some, filter_map, flat_map, option_map, if◌then◌else◌}
 use Rattle.std.specs.List.{list_all, cons_option}
-use Rattle.std.proofs.lemmas.Bool.{false≢true}
 use Rattle.std.proofs.lemmas.Option.{none-some}
 use Rattle.std.proofs.lemmas.Int.{ints, clamps}
 use Rattle.udb_base.specs.declared.conditions.Cond.{Cond}

@@ -1,52 +1,43 @@
 -- Bodies of fields of a program that fits: they return what their fields hold.
-use Rattle.std.proofs.Common.{◌≡◌, ◌⊎◌, inl, inr, ◌<◌, ◌^◌, ℕ, zero, suc, Bool, true, false, List, [], ◌∷◌, ◌++◌, length, Option, None, Some, refl, sym, ap, ◌∙◌, subst, append_assoc, arith}
-use Rattle.std.specs.Prelude.{◌&&◌, ◌%◌, ◌/◌, slice_get, option_map, option_and_then, All, IfSome}
-use Rattle.std.proofs.lemmas.List.Elements.{All-head, All-tail}
+use Rattle.std.proofs.Common.{◌≡◌, inl, inr, ℕ, suc, Bool, true, List, [], ◌∷◌, ◌++◌, length, Option, None, Some, refl, sym, ap, ◌∙◌, subst, append_assoc, arith}
+use Rattle.std.specs.Prelude.{slice_get}
 use Rattle.udb_base.specs.declared.conditions.Cond.{Cond}
 use Rattle.udb_base.specs.declared.spaces.Space.{Space}
 use Rattle.udb_base.specs.declared.spaces.Full.{Full}
 use Rattle.udb_spec.specs.Conditions.{holds}
 use Rattle.udb_spec.specs.Spaces.{Valid}
 use Rattle.udb_spec.specs.Lawful.{Lawful}
-use Rattle.idl_tree.specs.Each.{Each}
-use Rattle.idl_tree.specs.declared.widths.EnumKind.TheVariants.{CsrFieldType}
 use Rattle.idl_tree.specs.declared.widths.Shape.{Shape}
 use Rattle.idl_tree.specs.declared.widths.Shape.TheVariants as sh
-use Rattle.idl_tree.specs.declared.widths.Width.TheVariants as wd
 use Rattle.idl_tree.specs.declared.programs.Body.{Body}
 use Rattle.idl_tree.specs.declared.programs.Function.{Function}
-use Rattle.idl_tree.specs.declared.programs.Variable.{Variable}
 use Rattle.idl_tree.specs.declared.programs.FieldBodies.{FieldBodies}
 use Rattle.idl_tree.specs.declared.programs.CsrBody.{CsrBody}
 use Rattle.idl_tree.specs.declared.programs.Program.{Program}
 use Rattle.idl_spec.specs.declared.scopes.BodyScope.{BodyScope}
-use Rattle.idl_spec.specs.declared.scopes.BodyScope.TheVariants as scope
-use Rattle.idl_spec.specs.Values.{Value}
-use Rattle.idl_spec.specs.Harts.{State, Outcome, done, raised, stuck}
-use Rattle.idl_spec.specs.Shapes.{Kind, of_bits, of_member, function_named}
+use Rattle.idl_spec.specs.Harts.{State}
+use Rattle.idl_spec.specs.Shapes.{Kind}
 use Rattle.idl_spec.specs.Fields.{bits_scope}
 use Rattle.idl_spec.specs.Deeds.{deeds_of}
 use Rattle.idl_spec.specs.Settings.{Setting, NewNumber}
 use Rattle.idl_spec.specs.ProgramLaws.{callees_of}
-use Rattle.idl_spec.specs.Programs.{bare, quiet_setting, field_result, run_stmts, value_of, with_functions}
-use Rattle.idl_spec.specs.ProgramFits.{functions_fit, field_fits, fields_fit, csrs_fit, program_fits, field_presence}
-use Rattle.idl_spec.specs.Demands.{View, Check}
-use Rattle.idl_spec.specs.Checks.{view_of, header_issues, return_missing, fits, check, block_checks, stmt_checks}
+use Rattle.idl_spec.specs.Programs.{bare, quiet_setting, run_stmts}
+use Rattle.idl_spec.specs.ProgramFits.{functions_fit, field_fits, fields_fit, csrs_fit, field_presence}
+use Rattle.idl_spec.specs.Checks.{view_of, header_issues, return_missing, fits}
 use Rattle.idl_forms.specs.Ready.{IsLawfulProgram, AreLawfulVariables}
-use Rattle.type_laws.specs.Kinds.{HasKind, Passes, Mode, loud, in_field, below_field, StateOk, Good, DeedOk, Round, view_in, under, AllPass}
+use Rattle.type_laws.specs.Kinds.{Passes, Mode, in_field, below_field, StateOk, Good, DeedOk, Round, view_in, AllPass}
 use Rattle.type_laws.specs.Worlds.{World, Tested}
-use Rattle.type_laws.specs.Callees.{AreGood, Callable}
-use Rattle.type_laws.specs.Software.{Software, HasDistinctNames}
+use Rattle.type_laws.specs.Callees.{AreGood}
+use Rattle.type_laws.specs.Software.{HasDistinctNames}
 use Rattle.type_laws.specs.Given.{IsReadSpace, AreApart, IsBareBody, IsBareProgram}
 use Rattle.type_laws.proofs.Outcomes.{both_true}
 use Rattle.type_laws.proofs.Passing.{unless}
 use Rattle.type_laws.proofs.Reach.{Has, each_has}
-use Rattle.type_laws.proofs.StatementFlows.{CanReturn}
 use Rattle.type_laws.proofs.Statements.{Grounds}
 use Rattle.type_laws.proofs.Grounded as ground
 use Rattle.type_laws.proofs.GivenWorlds as given
-use Rattle.type_laws.proofs.Bodies.{IsGiven, ends_well, body_good}
-use Rattle.type_laws.proofs.FittedBodies.{plain_setting, fitted, holds_here, block_passes, checks_under}
+use Rattle.type_laws.proofs.Bodies.{IsGiven, body_good}
+use Rattle.type_laws.proofs.FittedBodies.{fitted, holds_here, block_passes, checks_under}
 use Rattle.type_laws.proofs.Moves as moves
 use Rattle.type_laws.proofs.ProgramFunctions.{functions_good, under_functions, with_functions_is}
 

@@ -1,6 +1,6 @@
 -- What bodies of fields give their fields: a type, a number at reset, and a number when software writes.
-use Rattle.std.proofs.Common.{◌≡◌, ◌⊎◌, inl, inr, ◌<◌, ◌^◌, ◌%◌, ℕ, Bool, true, false, List, [], ◌∷◌, length, get_or, Option, None, Some, refl, sym, ap, ◌∙◌, subst, arith}
-use Rattle.std.specs.Prelude.{◌&&◌, ◌/◌, slice_get, option_map, option_and_then, All, IfSome, is_some}
+use Rattle.std.proofs.Common.{◌≡◌, inl, inr, ◌<◌, ◌^◌, ◌%◌, ℕ, Bool, true, false, List, [], ◌∷◌, get_or, Option, None, Some, refl, sym, ap, ◌∙◌, subst}
+use Rattle.std.specs.Prelude.{◌&&◌, slice_get, option_map, option_and_then, All, IfSome}
 use Rattle.std.proofs.lemmas.Bool.{false≢true}
 use Rattle.std.proofs.lemmas.Option.{slice_get-get_or}
 use Rattle.std.proofs.lemmas.Nat.{mod_below, pow_pos}
@@ -17,7 +17,6 @@ use Rattle.idl_tree.specs.declared.programs.FieldKind.{FieldKind}
 use Rattle.idl_tree.specs.declared.programs.FieldKind.TheVariants as kinds
 use Rattle.idl_tree.specs.declared.programs.ResetValue.{ResetValue}
 use Rattle.idl_tree.specs.declared.programs.ResetValue.TheVariants as resets
-use Rattle.idl_tree.specs.declared.programs.FieldBodies.{FieldBodies}
 use Rattle.idl_tree.specs.declared.programs.CsrBody.{CsrBody}
 use Rattle.idl_tree.specs.declared.programs.Program.{Program}
 use Rattle.idl_bits.specs.Number.{extension, number}
@@ -26,13 +25,13 @@ use Rattle.idl_spec.specs.declared.scopes.BodyScope.TheVariants as scope
 use Rattle.idl_spec.specs.Values.{Value, bits, flag, member, given_text, written_text}
 use Rattle.idl_spec.specs.Harts.{State, Outcome, done, raised, stuck}
 use Rattle.idl_spec.specs.Shapes.{Kind, of_bits, of_flag, of_member, of_given_text, of_written_text}
-use Rattle.idl_spec.specs.Fields.{Placed, part_width, bits_at, layout}
+use Rattle.idl_spec.specs.Fields.{Placed, part_width, layout}
 use Rattle.idl_spec.specs.Settings.{Setting, NewNumber}
-use Rattle.idl_spec.specs.Programs.{IsState, blank_state, brought_to_field, field_types, type_of_member, type_of_kind, field_type, field_result, value_of, run_stmts, quiet_setting, written_number, value_at_reset, reset_number}
+use Rattle.idl_spec.specs.Programs.{IsState, blank_state, brought_to_field, field_types, type_of_member, type_of_kind, field_type, field_result, value_of, run_stmts, written_number, value_at_reset, reset_number}
 use Rattle.idl_spec.specs.ProgramFits.{functions_fit, csrs_fit, kind_fits, reset_fits, write_fits, field_presence}
 use Rattle.idl_spec.specs.Demands.{same_kind}
 use Rattle.idl_spec.specs.Checks.{outer_view, field_view}
-use Rattle.type_laws.specs.Kinds.{HasKind, Mode, in_field, StateOk, Good}
+use Rattle.type_laws.specs.Kinds.{HasKind, in_field, Good}
 use Rattle.type_laws.specs.Given.{IsBareBody, IsBareKind, IsBareReset, IsBareField}
 use Rattle.type_laws.proofs.Outcomes.{both_true}
 use Rattle.type_laws.proofs.Reach.{Has}

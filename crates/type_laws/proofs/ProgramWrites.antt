@@ -1,19 +1,18 @@
 -- What software writes to the CSRs of a program that fits leaves a state of the full configuration.
-use Rattle.std.proofs.Common.{◌≡◌, inl, inr, ◌<◌, ◌^◌, ℕ, Bool, true, false, List, [], ◌∷◌, ◌++◌, map, Option, None, Some, refl, sym, ap, ◌∙◌, subst}
+use Rattle.std.proofs.Common.{◌≡◌, inl, inr, ℕ, Bool, true, false, List, [], ◌∷◌, map, Option, None, Some, refl, sym, ap, ◌∙◌, subst}
 use Rattle.std.specs.Prelude.{flat_map, option_map, option_and_then, if◌then◌else◌}
 use Rattle.udb_base.specs.declared.spaces.Space.{Space}
 use Rattle.udb_base.specs.declared.spaces.Full.{Full}
 use Rattle.idl_tree.specs.Each.{Each}
-use Rattle.idl_tree.specs.declared.programs.FieldType.{FieldType}
 use Rattle.idl_tree.specs.declared.programs.CsrBody.{CsrBody}
 use Rattle.idl_tree.specs.declared.programs.Program.{Program}
 use Rattle.idl_spec.specs.Harts.{FieldValue, State, with_field}
-use Rattle.idl_spec.specs.Fields.{Placed, part_width, layout}
+use Rattle.idl_spec.specs.Fields.{Placed, layout}
 use Rattle.idl_spec.specs.Settings.{Setting, NewNumber}
 use Rattle.idl_spec.specs.Programs.{IsState, HoldFields, present_fields, field_type, is_writable, written_number, write_field, write_fields, write_csr}
 use Rattle.idl_spec.specs.ProgramFits.{functions_fit, csrs_fit}
-use Rattle.type_laws.specs.Software.{HasDistinctNames, HasWritten, TakesNumbers, CanWrite}
-use Rattle.type_laws.proofs.Reach.{Has, has_front, has_back, each_has}
+use Rattle.type_laws.specs.Software.{HasDistinctNames, HasWritten}
+use Rattle.type_laws.proofs.Reach.{Has, has_front, has_back}
 use Rattle.type_laws.proofs.FieldNames.{IsNamed, all_named}
 use Rattle.type_laws.proofs.StatementFields.{fields_kept}
 use Rattle.type_laws.proofs.ProgramFunctions.{under_functions}

@@ -1,9 +1,8 @@
 -- A width that fits where no variables stand counts the same beside any variables.
-use Rattle.std.proofs.Common.{◌≡◌, ◌⊎◌, ℕ, Bool, true, false, List, [], ◌∷◌, ◌++◌, map, length, take, Option, None, Some, refl, sym, ap, ◌∙◌, subst, append_assoc}
+use Rattle.std.proofs.Common.{◌≡◌, ◌⊎◌, ℕ, Bool, true, false, List, [], ◌∷◌, ◌++◌, length, Option, None, Some, refl, sym, ap, ◌∙◌, subst, append_assoc}
 use Rattle.std.specs.Prelude.{pos, if◌then◌else◌, suc}
 use Rattle.std.proofs.lemmas.Bool.{false≢true}
 use Rattle.std.proofs.lemmas.Option.{none-some}
-use Rattle.std.proofs.lemmas.List.Elements.{All-head, All-tail}
 use Rattle.udb_base.specs.declared.names.Name.{Name}
 use Rattle.udb_base.specs.declared.conditions.Cond.{Cond}
 use Rattle.udb_base.specs.declared.conditions.Cond.TheVariants as c
@@ -21,27 +20,27 @@ use Rattle.idl_tree.specs.declared.programs.Variable.{Variable}
 use Rattle.idl_tree.specs.declared.programs.Function.{Function}
 use Rattle.idl_tree.specs.declared.programs.CsrBody.{CsrBody}
 use Rattle.idl_tree.specs.declared.programs.Program.{Program}
-use Rattle.idl_width.specs.Numbers.{clip, larger, width_number, bits_among}
+use Rattle.idl_width.specs.Numbers.{clip, width_number, bits_among}
 use Rattle.idl_width.specs.NumberLaws.{number-Number, number-Word, number-Plus, number-Minus, number-Times, number-Max, number-Bits}
 use Rattle.idl_spec.specs.declared.scopes.BodyScope.TheVariants as scope
 use Rattle.idl_spec.specs.Harts.{State}
 use Rattle.idl_spec.specs.Shapes.{function_named}
 use Rattle.idl_spec.specs.Fields.{bits_scope}
-use Rattle.idl_spec.specs.Settings.{Setting, NewNumber}
+use Rattle.idl_spec.specs.Settings.{Setting}
 use Rattle.idl_spec.specs.ProgramLaws.{callees_of}
 use Rattle.idl_spec.specs.Programs.{bare}
 use Rattle.idl_spec.specs.ProgramFits.{functions_fit}
 use Rattle.std.specs.List.{list_any}
-use Rattle.idl_spec.specs.Demands.{Issue, unknown_name, View, width_issues, ranged, shape_issues}
+use Rattle.idl_spec.specs.Demands.{unknown_name, View, width_issues, ranged}
 use Rattle.idl_spec.specs.CheckLaws.{issues-Plus, issues-Minus, issues-Times, issues-Max, issues-Bits}
 use Rattle.idl_spec.specs.Checks.{argument_names, result_shape_issues, fits}
-use Rattle.type_laws.specs.Kinds.{Mode, loud, Passes, view_in}
+use Rattle.type_laws.specs.Kinds.{loud, Passes, view_in}
 use Rattle.type_laws.specs.Given.{IsBareBody}
 use Rattle.type_laws.proofs.Outcomes.{both_true, same_some}
 use Rattle.type_laws.proofs.Passing.{front, back}
 use Rattle.type_laws.proofs.GivenBits.{past_variables}
 use Rattle.type_laws.proofs.GivenFields.{scopes_of, scope_is}
-use Rattle.type_laws.proofs.FittedBodies.{plain_setting, FunctionPasses, function_passes, round_of}
+use Rattle.type_laws.proofs.FittedBodies.{function_passes, round_of}
 use Rattle.type_laws.proofs.Moves as moves
 use Rattle.type_laws.proofs.ProgramFunctions.{under_functions}
 

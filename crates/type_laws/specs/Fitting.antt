@@ -1,10 +1,10 @@
 -- The law of typing: a body that fits a full configuration, of a program that fits it, is never stuck there.
-use Rattle.std.specs.Prelude.{◌≡◌, ◌≢◌, ◌<◌, ◌^◌, true, ℕ, List, Option, None, Some, Contains}
+use Rattle.std.specs.Prelude.{◌≡◌, ◌≢◌, true, ℕ, List, None, Some, Contains}
 use Rattle.udb_base.specs.declared.conditions.Cond.{Cond}
 use Rattle.udb_base.specs.declared.spaces.Space.{Space}
 use Rattle.udb_base.specs.declared.spaces.Full.{Full}
 use Rattle.udb_spec.specs.Conditions.{holds}
-use Rattle.udb_spec.specs.Spaces.{Valid, mxlen}
+use Rattle.udb_spec.specs.Spaces.{Valid}
 use Rattle.udb_spec.specs.Lawful.{Lawful}
 use Rattle.idl_tree.specs.declared.programs.Body.{Body}
 use Rattle.idl_tree.specs.declared.programs.Function.{Function}
@@ -44,6 +44,9 @@ pub record FittingBodiesAreNeverStuck : Type 0 where
   pub operations : (space : Space) (full : Full) (program : Program) → IsFitting space full program
       → (presence : Cond) (body : Body) → IsFittingOperation space full program presence body
       → (s : State) → IsState space full program s → mean space full program as_operation body s ≢ stuck
+  pub functions : (space : Space) (full : Full) (program : Program) → IsFitting space full program
+      → (name : List ℕ) (f : Function) → function_named program.functions name ≡ Some f → (values : List Value) → SuitAll f.arguments values
+      → (s : State) → IsState space full program s → mean space full program (as_function name values) f.body s ≢ stuck
   pub types : (space : Space) (full : Full) (program : Program) → IsFitting space full program
       → (csr : CsrBody) → Contains program.csrs csr → (p : Placed) → Contains (layout space full csr) p → field_type space full program p ≢ None
   pub resets : (space : Space) (full : Full) (program : Program) → IsFitting space full program
