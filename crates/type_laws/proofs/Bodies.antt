@@ -1,12 +1,11 @@
 -- What whole bodies give: what their statements return, their arguments and their results.
-use Rattle.std.proofs.Common.{◌≡◌, ℕ, Bool, true, false, List, [], ◌∷◌, ◌++◌, map, Option, None, Some, refl, sym, ap, ◌∙◌, subst, append_assoc}
-use Rattle.std.specs.Prelude.{◌||◌, ◌&&◌, not, is_some, option_map, flat_map, if◌then◌else◌, pos}
-use Rattle.std.specs.List.{list_all, list_any}
+use Rattle.std.proofs.Common.{◌≡◌, ℕ, Bool, true, false, List, [], ◌∷◌, ◌++◌, Option, None, Some, refl, sym, ap, subst, append_assoc}
+use Rattle.std.specs.Prelude.{◌||◌, not, is_some, option_map, flat_map}
+use Rattle.std.specs.List.{list_any}
 use Rattle.idl_tree.specs.Each.{Each}
 use Rattle.udb_base.specs.declared.conditions.Cond.{Cond}
 use Rattle.udb_base.specs.declared.spaces.ParamSpace.{ParamSpace}
 use Rattle.udb_spec.specs.Conditions.{same_bytes}
-use Rattle.idl_tree.specs.declared.widths.Width.{Width}
 use Rattle.idl_tree.specs.declared.widths.EnumKind.{EnumKind}
 use Rattle.idl_tree.specs.declared.widths.Shape.{Shape}
 use Rattle.idl_tree.specs.declared.widths.Shape.TheVariants as sh
@@ -14,20 +13,20 @@ use Rattle.idl_tree.specs.declared.statements.Stmt.{Stmt}
 use Rattle.idl_tree.specs.declared.programs.Argument.{Argument}
 use Rattle.idl_spec.specs.Values.{Value, bits, flag, member, given_text, written_text, brought_to, same_enum}
 use Rattle.idl_spec.specs.Harts.{State, Outcome, done, raised, stuck, and_then}
-use Rattle.idl_spec.specs.Shapes.{Kind, of_bits, of_flag, of_member, declared_kind, parameter_named}
-use Rattle.idl_spec.specs.Settings.{Setting, Scope, Flow, goes_on, returns, number_of_width}
+use Rattle.idl_spec.specs.Shapes.{Kind, of_bits, of_member, declared_kind, parameter_named}
+use Rattle.idl_spec.specs.Settings.{Setting, Scope, Flow, goes_on, returns}
 use Rattle.idl_spec.specs.Mean.{in_shape, mean_stmts}
 use Rattle.idl_spec.specs.Programs.{returned, run_stmts, arguments, result}
 use Rattle.idl_spec.specs.Deeds.{deeds_of, ends_in_return}
-use Rattle.idl_spec.specs.Demands.{Issue, Visible, View, mismatch_unless, width_issues, shape_issues}
+use Rattle.idl_spec.specs.Demands.{Visible, View, width_issues, shape_issues}
 use Rattle.idl_spec.specs.Checks.{argument_names, visible_local, are_fresh, result_shape_issues}
-use Rattle.type_laws.specs.Kinds.{bound, HasKind, IsLocal, Suits, SuitAll, IsResult, Mode, StateOk, Good, DeedOk, Matches, Round, view_in, Passes, AllPass}
+use Rattle.type_laws.specs.Kinds.{HasKind, Suits, SuitAll, IsResult, Mode, StateOk, Good, DeedOk, Matches, Round, Passes, AllPass}
 use Rattle.type_laws.specs.Literals.{AreSmall, numbers_of}
 use Rattle.type_laws.proofs.Outcomes.{chosen_true, both_true, then_good}
-use Rattle.type_laws.proofs.Passing.{Here, front, back, range, unless}
-use Rattle.type_laws.proofs.Widths.{InRange, width_good}
+use Rattle.type_laws.proofs.Passing.{Here, front, back, range}
+use Rattle.type_laws.proofs.Widths.{width_good}
 use Rattle.type_laws.proofs.Sound.{Stands}
-use Rattle.type_laws.proofs.StatementFlows.{CanReturn, IsFlow, all_declared, Flows, block_in, each_statement}
+use Rattle.type_laws.proofs.StatementFlows.{CanReturn, IsFlow, all_declared, block_in, each_statement}
 use Rattle.type_laws.proofs.StatementForms.{IsSized, in_shape_good, matches_more}
 use Rattle.type_laws.proofs.Statements.{Grounds, statements_sound}
 use Rattle.type_laws.proofs.Ends.{IsOver, returns_over}

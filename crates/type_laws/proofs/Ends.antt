@@ -1,12 +1,8 @@
 -- Statements that end in a return never go on.
 use Rattle.std.proofs.Common.{◌≡◌, ℕ, Bool, true, false, List, [], ◌∷◌, map, Option, None, Some, length, sym, ◌∙◌, subst}
-use Rattle.std.specs.Prelude.{◌&&◌, IfSome, option_map, if◌then◌else◌}
+use Rattle.std.specs.Prelude.{IfSome, option_map, if◌then◌else◌}
 use Rattle.idl_tree.specs.Each.{Each}
-use Rattle.udb_base.specs.declared.names.Name.{Name}
-use Rattle.idl_tree.specs.declared.widths.Width.{Width}
-use Rattle.idl_tree.specs.declared.widths.Shape.{Shape}
 use Rattle.idl_tree.specs.declared.expressions.Expr.{Expr}
-use Rattle.idl_tree.specs.declared.statements.Target.{Target}
 use Rattle.idl_tree.specs.declared.statements.Stmt.{Stmt}
 use Rattle.idl_tree.specs.declared.statements.Stmt.TheVariants as st
 use Rattle.idl_tree.specs.StmtLaws.{Cases-Stmt, induct-Stmt}
@@ -15,8 +11,8 @@ use Rattle.idl_spec.specs.Harts.{State, Outcome, done, raised, stuck, and_then}
 use Rattle.idl_spec.specs.Settings.{Setting, Scope, Flow, goes_on, returns, Change, with_flag}
 use Rattle.idl_spec.specs.Mean.{onward, in_turn, leaving, block, other_block, mean_expr, mean_stmt, mean_stmts}
 use Rattle.idl_spec.specs.MeanLaws.{runs-Block, runs-Return, runs-If}
-use Rattle.idl_spec.specs.Deeds.{stmt_ends, last_ends, ends_in_return}
-use Rattle.idl_spec.specs.DeedLaws.{ends-Declare, ends-Assign, ends-Block, ends-Return, ends-If, ends-For, ends-Jump, ends-Raise, ends-WriteMemory, ends-SoftWrite, ends-Call}
+use Rattle.idl_spec.specs.Deeds.{stmt_ends, ends_in_return}
+use Rattle.idl_spec.specs.DeedLaws.{ends-Declare, ends-Assign, ends-Block, ends-If, ends-For, ends-Jump, ends-Raise, ends-WriteMemory, ends-SoftWrite, ends-Call}
 use Rattle.type_laws.proofs.Outcomes.{both_true}
 
 -- what runs doesn't go on to a next statement

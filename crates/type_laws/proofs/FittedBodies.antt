@@ -1,6 +1,6 @@
 -- What a body that fits gives: its checks pass in the setting where it runs.
-use Rattle.std.proofs.Common.{◌≡◌, ℕ, Bool, true, false, List, [], ◌∷◌, ◌++◌, map, take, length, Option, None, Some, refl, sym, ap, ◌∙◌, subst}
-use Rattle.std.specs.Prelude.{◌||◌, not, is_some, option_map, slice_get, flat_map}
+use Rattle.std.proofs.Common.{◌≡◌, ℕ, Bool, true, List, [], ◌∷◌, ◌++◌, map, take, length, Option, None, Some, refl, sym, ap, ◌∙◌, subst}
+use Rattle.std.specs.Prelude.{option_map, slice_get, flat_map}
 use Rattle.std.specs.List.{list_all}
 use Rattle.udb_base.specs.declared.conditions.Cond.{Cond}
 use Rattle.udb_base.specs.declared.conditions.Cond.TheVariants as c
@@ -14,13 +14,12 @@ use Rattle.idl_tree.specs.declared.programs.CsrBody.{CsrBody}
 use Rattle.idl_tree.specs.declared.programs.Program.{Program}
 use Rattle.idl_spec.specs.declared.scopes.BodyScope.{BodyScope}
 use Rattle.idl_spec.specs.declared.scopes.BodyScope.TheVariants as scope
-use Rattle.idl_spec.specs.Shapes.{Kind, declared_kind}
+use Rattle.idl_spec.specs.Shapes.{declared_kind}
 use Rattle.idl_spec.specs.Harts.{State}
 use Rattle.idl_spec.specs.Fields.{bits_scope}
 use Rattle.idl_spec.specs.Settings.{Callee, Setting}
-use Rattle.idl_spec.specs.Deeds.{ends_in_return}
 use Rattle.idl_spec.specs.Demands.{Issue, Check, Visible, View, mismatch_unless, shape_issues}
-use Rattle.idl_spec.specs.Checks.{Walk, check, stmt_checks, block_checks, argument_names, variable_names, outer_view, function_view, field_view, view_of, header_issues, function_issues, result_shape_issues, are_fresh, return_missing, body_checks, context_holds, passes, under_of, fits}
+use Rattle.idl_spec.specs.Checks.{check, stmt_checks, block_checks, argument_names, variable_names, outer_view, function_view, view_of, header_issues, function_issues, result_shape_issues, are_fresh, return_missing, body_checks, context_holds, passes, under_of, fits}
 use Rattle.type_laws.specs.Kinds.{Mode, loud, in_field, below_field, Round, view_in, under, Passes, AllPass}
 use Rattle.type_laws.proofs.Outcomes.{both_true}
 use Rattle.type_laws.proofs.Passing.{front, back, unless}

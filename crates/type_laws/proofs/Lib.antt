@@ -43,4 +43,10 @@ pub mod GivenParams
 pub mod GivenBits
 pub mod GivenFields
 pub mod GivenWorlds
+pub mod Presence
 pub mod Grounded
+pub mod ProgramFields
+pub mod ProgramNumbers
+pub mod ProgramWrites
+pub mod SameWidths
+pub mod Fitted

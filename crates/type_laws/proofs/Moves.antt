@@ -1,5 +1,5 @@
 -- What is good in a setting is good in another with other variables, callees and writes.
-use Rattle.std.proofs.Common.{◌≡◌, ℕ, Bool, true, false, List, Option, None, Some, refl, sym, ◌∙◌, subst}
+use Rattle.std.proofs.Common.{◌≡◌, ℕ, Bool, true, false, List, Option, None, Some, sym, ◌∙◌, subst}
 use Rattle.std.specs.Prelude.{find}
 use Rattle.udb_spec.specs.Conditions.{same_bytes}
 use Rattle.idl_tree.specs.declared.widths.Shape.{Shape}
@@ -11,7 +11,7 @@ use Rattle.idl_spec.specs.Values.{Value, bits, flag, member, given_text, written
 use Rattle.idl_spec.specs.Harts.{State, Outcome, done, raised, stuck, or_stuck}
 use Rattle.idl_spec.specs.Shapes.{declared_kind, function_named}
 use Rattle.idl_spec.specs.Settings.{Setting, Callee, NewNumber, number_of_width}
-use Rattle.type_laws.specs.Kinds.{HasKind, IsResult, SuitAll, Mode, loud, in_field, below_field, StateOk, Good, MayRaise, MayCall}
+use Rattle.type_laws.specs.Kinds.{HasKind, IsResult, Mode, loud, in_field, below_field, StateOk, Good, MayCall}
 use Rattle.type_laws.specs.Callees.{AreGood}
 
 module _ (e : Setting) (variables : List Variable) (callees : List Callee) (soft_write : Option (CsrBody → ℕ → State → Option State)) (written : Option NewNumber) where

@@ -1,6 +1,6 @@
 -- The functions of a program that fits, each under those declared before it: calls of them are good.
-use Rattle.std.proofs.Common.{◌≡◌, ℕ, suc, Bool, true, false, List, [], ◌∷◌, ◌++◌, map, length, Option, None, Some, refl, sym, ap, ◌∙◌, subst, append_assoc, inl}
-use Rattle.std.specs.Prelude.{◌&&◌, All, find, option_map, if◌then◌else◌}
+use Rattle.std.proofs.Common.{◌≡◌, ℕ, suc, Bool, true, false, List, [], ◌∷◌, ◌++◌, length, Option, None, Some, refl, sym, ap, ◌∙◌, subst, append_assoc, inl}
+use Rattle.std.specs.Prelude.{All, find, option_map, if◌then◌else◌}
 use Rattle.std.specs.Option.{option_or}
 use Rattle.std.specs.Cmp.Lexicographic.{bytes_decides}
 use Rattle.std.proofs.lemmas.List.{append-nil}
@@ -19,12 +19,12 @@ use Rattle.idl_tree.specs.declared.programs.CsrBody.{CsrBody}
 use Rattle.idl_tree.specs.declared.programs.Program.{Program}
 use Rattle.idl_spec.specs.declared.scopes.BodyScope.TheVariants as scope
 use Rattle.idl_spec.specs.Values.{Value}
-use Rattle.idl_spec.specs.Harts.{State, Outcome, or_stuck}
+use Rattle.idl_spec.specs.Harts.{State, or_stuck}
 use Rattle.idl_spec.specs.Shapes.{declared_kind, function_named}
 use Rattle.idl_spec.specs.Settings.{Callee, Setting}
 use Rattle.idl_spec.specs.Programs.{arguments, result, run_stmts, run_function, bare, with_functions, before}
 use Rattle.idl_spec.specs.ProgramLaws.{callees_of, functions-setting, callee_under, callee-named}
-use Rattle.idl_spec.specs.Deeds.{Deed, deeds_of, function_deeds}
+use Rattle.idl_spec.specs.Deeds.{function_deeds}
 use Rattle.idl_spec.specs.Checks.{argument_names, fits}
 use Rattle.idl_spec.specs.ProgramFits.{functions_fit}
 use Rattle.type_laws.specs.Kinds.{SuitAll, IsResult, Mode, loud, in_field, below_field, is_in_field, StateOk, Good, MayCall, DeedOk, Matches, Round, view_in}
@@ -33,7 +33,7 @@ use Rattle.type_laws.specs.Given.{IsBareBody}
 use Rattle.type_laws.specs.Literals.{AreSmall, numbers_of}
 use Rattle.type_laws.proofs.Outcomes.{both_true, then_good, same_some}
 use Rattle.type_laws.proofs.Statements.{Grounds}
-use Rattle.type_laws.proofs.Bodies.{IsGiven, ResultSized, result_good, arguments_good, body_good, sized_result, are_arguments}
+use Rattle.type_laws.proofs.Bodies.{IsGiven, result_good, arguments_good, body_good, sized_result, are_arguments}
 use Rattle.type_laws.proofs.FittedBodies.{IsCallMode, round_of, plain_setting, FunctionPasses, function_passes, holds_here}
 use Rattle.type_laws.proofs.Moves.{SameResult, good_to, result_to, may_back, state_back}
 use Rattle.type_laws.proofs.Reach.{Has, has_back, each_has, may_sooner, deeds_below}

@@ -1,6 +1,6 @@
 -- The functions that a call reaches in so many turns: a called function and all that it calls are among them.
-use Rattle.std.proofs.Common.{◌≡◌, ◌++◌, Bool, true, false, ℕ, List, [], ◌∷◌, map, Option, None, Some, refl, sym, ap, ◌∙◌, subst, ◌⊎◌, inl, inr}
-use Rattle.std.specs.Prelude.{◌||◌, ◌&&◌, not, filter, filter_map, if◌then◌else◌}
+use Rattle.std.proofs.Common.{◌≡◌, ◌++◌, Bool, true, false, ℕ, List, [], ◌∷◌, map, refl, sym, ap, ◌∙◌, subst, ◌⊎◌, inl, inr}
+use Rattle.std.specs.Prelude.{◌||◌, ◌&&◌, not, filter, if◌then◌else◌}
 use Rattle.std.specs.List.{list_all, list_any}
 use Rattle.std.specs.Cmp.Lexicographic.{bytes_decides}
 use Rattle.udb_base.specs.Lists.{is_among}
@@ -8,7 +8,7 @@ use Rattle.udb_spec.specs.Conditions.{same_bytes}
 use Rattle.idl_tree.specs.Each.{Each}
 use Rattle.idl_tree.specs.declared.programs.Function.{Function}
 use Rattle.idl_spec.specs.Settings.{Setting}
-use Rattle.idl_spec.specs.Deeds.{Deed, calls, reads_field, reads_state, reads_memory, acts, function_deeds, called, called_names, calls_function, with_called, repeated_for, leaves_fields, stays_in_fields}
+use Rattle.idl_spec.specs.Deeds.{Deed, calls, reads_field, reads_state, reads_memory, acts, function_deeds, called_names, calls_function, with_called, repeated_for, leaves_fields, stays_in_fields}
 use Rattle.type_laws.specs.Kinds.{below_field, may_call, DeedOk}
 
 -- ---- lists

@@ -52,7 +52,7 @@ module _ (e : Setting) where
       let found : present_field e.space e.full e.program csr field ≡ Some q.1 = ap (λ x. present_field e.space e.full e.program x field) c ∙ (ap (λ x. present_field e.space e.full e.program q.0.name x) g ∙ named) in
       (h.0, h.1, subst (λ (x : Placed). n < 2 ^ part_width x.bits) (same_some (sym is ∙ found)) low)
 
-  fields_kept : (csr field : List ℕ) (p : Placed) (n : ℕ) → present_field e.space e.full e.program csr field ≡ Some p → n < 2 ^ part_width p.bits
+  pub fields_kept : (csr field : List ℕ) (p : Placed) (n : ℕ) → present_field e.space e.full e.program csr field ≡ Some p → n < 2 ^ part_width p.bits
       → (fs : List FieldValue) (qs : List (CsrBody × Placed)) → Each Named qs → HoldFields fs qs → HoldFields (with_field fs csr field n) qs
   unfolding with_field
   fields_kept csr field p n is low [] [] named h = tt

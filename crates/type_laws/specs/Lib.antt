@@ -6,4 +6,5 @@ pub mod Worlds
 pub mod Callees
 pub mod Software
 pub mod Soundness
+pub mod Fitting
 pub mod Laws
