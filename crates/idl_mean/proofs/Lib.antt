@@ -11,3 +11,4 @@ pub mod Changes
 pub mod StatesKept
 pub mod Operations
 pub mod Places
+pub mod Typing

@@ -4,13 +4,13 @@ ghost use Rattle.std.specs.Prelude.{◌≡◌, ◌≢◌, ◌<◌, true, [], Non
 ghost use Rattle.udb_spec.specs.Lawful.{Lawful};
 ghost use Rattle.udb_spec.specs.Spaces.{Valid};
 ghost use Rattle.idl_spec.specs.Fields.{bits_scope};
-ghost use Rattle.idl_spec.specs.Harts.{stuck};
 ghost use Rattle.idl_spec.specs.Programs.{IsState};
 ghost use Rattle.idl_forms.specs.States.{state_of, AnswersWith, Ends};
 ghost use Rattle.idl_forms.specs.Scenes.{placed_of};
 ghost use Rattle.idl_forms.specs.Ready.{IsScene, IsPart, IsLawfulProgram, AreLawfulVariables};
 ghost use Rattle.idl_mean.specs.Flows.{nothing, operation_end};
-ghost use Rattle.idl_mean.specs.Evaluators.{operation, outcome_of, placed_at, reset_at};
+ghost use Rattle.idl_spec.specs.ProgramFits.{program_fits};
+ghost use Rattle.idl_mean.specs.Evaluators.{operation, outcome_of, placed_at, reset_at, IsRead, FitsAt, NeverStuck, HasReset};
 
 use crate::prepared::{Prepared, prepare};
 use crate::statements::execute_all;
@@ -24,6 +24,7 @@ use idl_tree::{Body, Program, Variable};
 use idl_width::BitsScope;
 use std::alloc::{AllocError, Global};
 use std::marker::Model;
+use type_laws::fitting_bodies_are_never_stuck;
 use udb_base::{Full, Many, NoMemory, Space};
 use udb_cond::{holds, mxlen};
 
@@ -98,14 +99,17 @@ impl Evaluator {
     ) -> Result<Outcome, NoMemory>
         requires place { body < length self.old.bodies }
         requires valid { Valid self.old.space full.now }
+        requires read { IsRead self.old }
+        requires program { program_fits self.old.space full.now self.old.program ≡ true }
+        requires fits { FitsAt self.old body full.now }
         requires state { IsState self.old.space full.now self.old.program (state_of state.old) }
-        requires runs { operation self.old body full.now (state_of state.old) ≢ stuck }
         ensures same { self.new ≡ self.old }
         ensures value { IfOk result (λ end. operation self.old body full.now (state_of state.old)
             ≡ outcome_of end (state_of state.new)) }
         ensures state { OnOk result (IsState self.old.space full.now self.old.program
             (state_of state.new)) }
     {
+        self.is_never_stuck(body, full);
         match self.attempt(alloc, body, full, state) {
             Ok(()) => Ok(Outcome::Done),
             Err(stop) => match stop {
@@ -148,11 +152,14 @@ impl Evaluator {
         full: &Full,
     ) -> Result<u64, NoMemory>
         requires valid { Valid self.old.space full.now }
-        requires has { reset_at self.old.space full.now self.old.program csr field ≢ None }
+        requires read { IsRead self.old }
+        requires program { program_fits self.old.space full.now self.old.program ≡ true }
+        requires present { placed_at self.old.space full.now self.old.program csr field ≢ None }
         ensures same { self.new ≡ self.old }
         ensures value { IfOk result (λ number. reset_at self.old.space full.now self.old.program
             csr field ≡ Some number) }
     {
+        self.has_reset(csr, field, full);
         match self.attempt_reset(alloc, csr, field, full) {
             Ok(number) => Ok(number),
             Err(stop) => match stop {
@@ -178,6 +185,30 @@ impl Evaluator {
         let scene = self.scene(full, &[], &self.bare_widths);
         let placed = required(placed_at(&scene, csr, field))?;
         reset_number(alloc, &scene, placed, DEEPEST)
+    }
+
+    // A body that fits is never stuck, by the law of typing.
+    fn is_never_stuck(&self, body: u32, full: &Full)
+        requires place { body < length self.now.bodies }
+        requires valid { Valid self.now.space full.now }
+        requires read { IsRead self.now }
+        requires program { program_fits self.now.space full.now self.now.program ≡ true }
+        requires fits { FitsAt self.now body full.now }
+        ensures { NeverStuck self.now body full.now }
+    {
+        let _ = &self.prepared;
+        fitting_bodies_are_never_stuck();
+    }
+
+    // A field that is present has a number at reset, by the law of typing.
+    fn has_reset(&self, csr: u32, field: u32, full: &Full)
+        requires valid { Valid self.now.space full.now }
+        requires read { IsRead self.now }
+        requires program { program_fits self.now.space full.now self.now.program ≡ true }
+        ensures { HasReset self.now csr field full.now }
+    {
+        let _ = &self.prepared;
+        fitting_bodies_are_never_stuck();
     }
 
     // What stands round a body with these variables.
