@@ -1,0 +1,7 @@
+//! Demands on full configurations: which of them are costly, and in which full configuration one is
+//! broken.
+#![tactic(auto)]
+
+mod costs;
+
+pub use costs::{Named, named_by_both, named_in};
