@@ -1,1 +1,3 @@
 pub mod NamedLaws
+pub mod ReadLaws
+pub mod CaseLaws

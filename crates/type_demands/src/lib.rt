@@ -2,6 +2,9 @@
 //! broken.
 #![tactic(auto)]
 
+mod cases;
 mod costs;
+mod numbers;
+mod widths;
 
 pub use costs::{Named, named_by_both, named_in};
