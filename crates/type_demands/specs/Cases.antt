@@ -83,3 +83,11 @@ pub record AddsCase (space : Space) (scope : List BitsOf) (one : Demand) (place 
 pub record HoldsAny (space : Space) (scope : List BitsOf) (one : Demand) (place : ℕ) (ns : List ℕ) (name : Name) (listed : List ℕ) (parts : List Cond) : Type 0 where
   pub law : (full : Full) → Valid space full → Agrees (demand_reads one) space full (drop place space.params) ns
       → holds space full (c.Any parts) ≡ (list_any (is_case space full name t.Equal) listed && is_broken space scope one full)
+
+-- the condition holds where one of the parts does
+pub record HoldsAsAny (parts : List Cond) (cond : Cond) : Type 0 where
+  pub law : (space : Space) (full : Full) → holds space full cond ≡ holds space full (c.Any parts)
+
+-- the condition holds in exactly the valid full configurations that break a demand on widths
+pub record HoldsWhereBroken (space : Space) (scope : List BitsOf) (one : Demand) (cond : Cond) : Type 0 where
+  pub law : (full : Full) → Valid space full → holds space full cond ≡ is_broken space scope one full
