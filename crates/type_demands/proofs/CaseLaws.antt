@@ -1,8 +1,7 @@
 -- Conditions that hold where a demand on widths is broken.
 use Rattle.std.proofs.Common.{◌≡◌, ◌∙◌, ◌⊎◌, inl, inr, ℕ, zero, suc, ◌+◌, ◌-◌, ◌<◌, ◌≤◌, ◌==◌, ◌||◌, ◌&&◌, ◌++◌, min, nat_le, Bool, true, false, not, List, [], ◌∷◌, map, take, drop, length, get_or, Option, None, Some, add-one, arith, refl, sym, ap, subst}
-use Rattle.std.specs.Prelude.{IsTrue, AllPairs, Contains, pos, slice_get, if◌then◌else◌}
-use Rattle.std.specs.List.{AllZip, list_any, list_all, range_with_len}
-use Rattle.std.specs.Cmp.Lexicographic.{bytes_decides}
+use Rattle.std.specs.Prelude.{IsTrue, AllPairs, Contains, slice_get, if◌then◌else◌}
+use Rattle.std.specs.List.{AllZip, list_any, range_with_len}
 use Rattle.std.proofs.lemmas.Bool.{false≢true, eqb-true, eq-eqb}
 use Rattle.std.proofs.lemmas.Bool.Decides.{nat_tests}
 use Rattle.std.proofs.lemmas.Int.{ints, clamps}
@@ -19,7 +18,7 @@ use Rattle.udb_base.specs.declared.spaces.Domain.TheVariants.{Flags, Numbers, Ra
 use Rattle.udb_base.specs.declared.spaces.ParamSpace.{ParamSpace}
 use Rattle.udb_base.specs.declared.spaces.Space.{Space}
 use Rattle.udb_base.specs.declared.spaces.Full.{Full}
-use Rattle.udb_spec.specs.Conditions.{holds, same_bytes, value_among, value_of, passes, option_passes}
+use Rattle.udb_spec.specs.Conditions.{holds, value_among, value_of, passes, option_passes}
 use Rattle.udb_spec.specs.CondLaws.{holds-Always, holds-Never, holds-Param, holds-All, holds-Any}
 use Rattle.udb_spec.specs.Lawful.{name_lt, Lawful}
 use Rattle.udb_spec.specs.Spaces.{Valid, IsValue, InDomain, number_or}

@@ -1,6 +1,6 @@
 -- A width has one number in full configurations that agree on the parameters that it depends on.
 use Rattle.std.proofs.Common.{◌≡◌, ◌∙◌, ◌⊎◌, inl, inr, ℕ, ◌==◌, ◌||◌, ◌&&◌, Bool, true, false, List, [], ◌∷◌, map, Option, None, Some, arith, refl, sym, ap, subst}
-use Rattle.std.specs.Prelude.{codes, pos, if◌then◌else◌, int_le, int_lt}
+use Rattle.std.specs.Prelude.{codes, pos, if◌then◌else◌, int_le}
 use Rattle.std.specs.Cmp.Lexicographic.{bytes_decides}
 use Rattle.std.proofs.lemmas.Bool.{false≢true, eqb-true, eq-eqb}
 use Rattle.std.proofs.lemmas.Int.{ints, clamps}
@@ -14,9 +14,9 @@ use Rattle.udb_spec.specs.Conditions.{same_bytes, value_among, value_of}
 use Rattle.udb_spec.specs.Spaces.{number_or, mxlen}
 use Rattle.idl_tree.specs.declared.widths.Width.{Width}
 use Rattle.idl_tree.specs.declared.widths.Width.TheVariants as w
-use Rattle.idl_tree.specs.WidthLaws.{fold-Width-Number, fold-Width-Word, fold-Width-Plus, fold-Width-Minus, fold-Width-Times, fold-Width-Max, fold-Width-Bits, Cases-Width, induct-Width}
+use Rattle.idl_tree.specs.WidthLaws.{fold-Width-Number, fold-Width-Word, fold-Width-Plus, fold-Width-Minus, fold-Width-Times, fold-Width-Max, fold-Width-Bits, induct-Width}
 use Rattle.idl_width.specs.declared.scopes.BitsOf.{BitsOf}
-use Rattle.idl_width.specs.Numbers.{clip, is_named, bits_for, bits_among, parameter_number, width_number, larger}
+use Rattle.idl_width.specs.Numbers.{clip, is_named, bits_for, bits_among, parameter_number, width_number}
 use Rattle.idl_width.specs.NumberLaws.{number-Number, number-Word, number-Plus, number-Minus, number-Times, number-Max, number-Bits}
 use Rattle.idl_spec.specs.Demands.{Demand, in_range, in_slice, defined, present}
 use Rattle.type_demands.specs.Reads.{reads, reads_step, demand_reads, widths_meet, Alike, Agrees, full_with}

@@ -1,5 +1,5 @@
 -- Conditions that hold where a demand on widths is broken, case by case.
-use Rattle.std.specs.Prelude.{◌≡◌, ◌&&◌, ◌||◌, ◌+◌, ◌-◌, ◌++◌, min, Bool, true, false, not, ℕ, nat_le, List, [], ◌∷◌, map, drop, Option, Some, slice_get, if◌then◌else◌}
+use Rattle.std.specs.Prelude.{◌≡◌, ◌&&◌, ◌||◌, ◌+◌, ◌-◌, min, Bool, true, false, not, ℕ, nat_le, List, [], ◌∷◌, drop, Some, slice_get, if◌then◌else◌}
 use Rattle.std.specs.List.{list_any, range_with_len}
 use Rattle.udb_base.specs.declared.names.Name.{Name}
 use Rattle.udb_base.specs.declared.conditions.Cond.{Cond}
@@ -9,7 +9,7 @@ use Rattle.udb_base.specs.declared.conditions.Test.TheVariants as t
 use Rattle.udb_base.specs.declared.conditions.Value.{Value}
 use Rattle.udb_base.specs.declared.conditions.Value.TheVariants.{Number}
 use Rattle.udb_base.specs.declared.spaces.Domain.{Domain}
-use Rattle.udb_base.specs.declared.spaces.Domain.TheVariants.{Flags, Numbers, Range, Words}
+use Rattle.udb_base.specs.declared.spaces.Domain.TheVariants.{Numbers, Range}
 use Rattle.udb_base.specs.declared.spaces.ParamSpace.{ParamSpace}
 use Rattle.udb_base.specs.declared.spaces.Space.{Space}
 use Rattle.udb_base.specs.declared.spaces.Full.{Full}

@@ -1,7 +1,6 @@
 -- The parameters that a width's number depends on, and full configurations that give them numbers
 -- which count alike there.
-use Rattle.std.specs.Prelude.{◌≡◌, ◌||◌, Bool, true, false, not, ℕ, List, [], ◌∷◌, map, codes, pos, ◌&&◌, int_le, int_lt}
-use Rattle.udb_base.specs.declared.names.Name.{Name}
+use Rattle.std.specs.Prelude.{◌≡◌, ◌||◌, Bool, true, false, ℕ, List, [], ◌∷◌, map, codes, pos, ◌&&◌, int_le, int_lt}
 use Rattle.udb_base.specs.declared.conditions.Value.TheVariants.{Number}
 use Rattle.udb_base.specs.declared.spaces.ParamSpace.{ParamSpace}
 use Rattle.udb_base.specs.declared.spaces.Space.{Space}

@@ -5,10 +5,12 @@ ghost use Rattle.std.specs.List.{list_any};
 ghost use Rattle.udb_base.specs.Lists as lists;
 ghost use Rattle.udb_spec.specs.Conditions.{same_bytes};
 ghost use Rattle.idl_spec.specs.Costs as meant;
+ghost use Rattle.type_issues.specs.Issues.{demand_of};
 ghost use Rattle.type_demands.specs.Names.{named_of, names_one};
 
 use idl_tree::{Base, CsrBody, FieldBodies, FieldPlaces, Program, Variable, Width};
 use std::alloc::Global;
+use type_issues::Demand;
 use udb_base::{Copied, Many, Name, NoMemory, both, copy_all, is_among};
 
 /// The parameters that a width names, each once, and whether it multiplies two widths that both
@@ -211,4 +213,79 @@ pub fn named_in(
         }
         Width::Bits { csr, name } => bits_named(alloc, program, variables, csr, name),
     }
+}
+
+// What two widths name together.
+fn named_in_two(
+    alloc: Global,
+    program: &Program,
+    variables: &[Variable],
+    a: &Width,
+    z: &Width,
+) -> Result<Named, NoMemory>
+    ensures { IfOk result (λ n. named_of n
+        ≡ meant.named_by_both (meant.named_in program.now variables.now a.now)
+        (meant.named_in program.now variables.now z.now)) }
+{
+    let (a, z) = both(
+        named_in(alloc, program, variables, a),
+        named_in(alloc, program, variables, z),
+    )?;
+    named_by_both(alloc, &a, &z)
+}
+
+// What three widths name together.
+fn named_in_three(
+    alloc: Global,
+    program: &Program,
+    variables: &[Variable],
+    high: &Width,
+    low: &Width,
+    of: &Width,
+) -> Result<Named, NoMemory>
+    ensures { IfOk result (λ n. named_of n
+        ≡ meant.named_by_both (meant.named_in program.now variables.now high.now)
+        (meant.named_by_both (meant.named_in program.now variables.now low.now)
+        (meant.named_in program.now variables.now of.now))) }
+{
+    let (high, others) = both(
+        named_in(alloc, program, variables, high),
+        named_in_two(alloc, program, variables, low, of),
+    )?;
+    named_by_both(alloc, &high, &others)
+}
+
+fn demand_named(
+    alloc: Global,
+    program: &Program,
+    variables: &[Variable],
+    demand: &Demand,
+) -> Result<Named, NoMemory>
+    ensures { IfOk result (λ n. named_of n
+        ≡ meant.demand_named program.now variables.now (demand_of demand.now)) }
+{
+    match demand {
+        Demand::InRange { limits: _, width } => named_in(alloc, program, variables, width.get()),
+        Demand::InSlice { high, low, of } => {
+            named_in_three(alloc, program, variables, high.get(), low.get(), of.get())
+        }
+        Demand::Defined(_) => Ok(names_nothing(alloc)),
+        Demand::Present { csr: _, field: _ } => Ok(names_nothing(alloc)),
+    }
+}
+
+/// Whether the widths of a demand name more than two parameters together, or one multiplies two
+/// widths that both name some: then its full configurations are too many to try. The one refusal is
+/// want of memory.
+pub fn is_costly(
+    alloc: Global,
+    program: &Program,
+    variables: &[Variable],
+    demand: &Demand,
+) -> Result<bool, NoMemory>
+    ensures { IfOk result (λ b. b
+        ≡ meant.is_costly program.now variables.now (demand_of demand.now)) }
+{
+    let named = demand_named(alloc, program, variables, demand)?;
+    Ok(named.is_product || named.params.len() > 2)
 }

@@ -2,9 +2,13 @@
 //! broken.
 #![tactic(auto)]
 
+mod breaches;
 mod cases;
 mod costs;
 mod numbers;
+mod presence;
+mod search;
 mod widths;
 
-pub use costs::{Named, named_by_both, named_in};
+pub use costs::{Named, is_costly, named_by_both, named_in};
+pub use search::breaker;

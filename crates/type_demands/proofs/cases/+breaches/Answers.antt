@@ -1,4 +1,4 @@
-use Rattle.std.proofs.Common.{◌≡◌, ◌∙◌, ◌⊎◌, inl, inr, ◌∷◌, ◌+◌, ◌-◌, ◌<◌, ◌≤◌, length, get_or, false, arith, refl, sym, ap, subst}
+use Rattle.std.proofs.Common.{◌≡◌, ◌∙◌, ◌⊎◌, inl, inr, ◌∷◌, ◌+◌, ◌-◌, get_or, false, arith, refl, sym, ap, subst}
 use Rattle.std.specs.Prelude.{Result, Ok, Err, IfOk}
 use Rattle.type_issues.specs.Issues.{demand_of}
 use Rattle.type_demands.specs.Reads.{demand_reads}
