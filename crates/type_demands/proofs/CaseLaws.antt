@@ -177,13 +177,13 @@ le-true a b h = grind (arith, nat_tests)
 abbrev IsTried : Domain → Value → Type 0
 IsTried d x = (list_any (λ n. passes t.Equal x (Number n)) (listed_numbers d) || (has_more d && passes t.AtLeast x (Number 1000000))) ≡ true
 
-pub tried : (d : Domain) (x : Value) → has_numbers d ≡ true → InDomain d x → IsTried d x
-tried (Numbers ns) (Number m) h among = or-first _ _ (contains-any (λ n. m == n) ns m among (eq-eqb m m refl))
-tried (Numbers ns) (Flag b) h among = absurd among
-tried (Numbers ns) (Word b) h among = absurd among
-tried (Range low high) (Flag b) h among = absurd among
-tried (Range low high) (Word b) h among = absurd among
-tried (Range low high) (Number m) h among = by (nat_le 1000000 m) refl where
+number-is-tried : (d : Domain) (x : Value) → has_numbers d ≡ true → InDomain d x → IsTried d x
+number-is-tried (Numbers ns) (Number m) h among = or-first _ _ (contains-any (λ n. m == n) ns m among (eq-eqb m m refl))
+number-is-tried (Numbers ns) (Flag b) h among = absurd among
+number-is-tried (Numbers ns) (Word b) h among = absurd among
+number-is-tried (Range low high) (Flag b) h among = absurd among
+number-is-tried (Range low high) (Word b) h among = absurd among
+number-is-tried (Range low high) (Number m) h among = by (nat_le 1000000 m) refl where
   few : (m : ℕ) → nat_le 1000000 m ≡ false → m < 1000000
   few m e = grind (arith, nat_tests)
 
@@ -193,8 +193,8 @@ tried (Range low high) (Number m) h among = by (nat_le 1000000 m) refl where
   by : (b : Bool) → nat_le 1000000 m ≡ b → IsTried (Range low high) (Number m)
   by true e = or-second (list_any (λ n. m == n) (range_with_len low (min high 999999 + 1 - low))) _ (and-both (nat_le 1000000 high) (nat_le 1000000 m) (le-true 1000000 high (let k = many m e in omega (arith, k, among.1))) e)
   by false e = or-first _ _ (contains-any (λ n. m == n) (range_with_len low (min high 999999 + 1 - low)) m (in-run low (min high 999999 + 1 - low) m among.0 (let k = few m e in omega (arith, k, among.0, among.1))) (eq-eqb m m refl))
-tried Flags x h among = absurd (false≢true h)
-tried (Words ws) x h among = absurd (false≢true h)
+number-is-tried Flags x h among = absurd (false≢true h)
+number-is-tried (Words ws) x h among = absurd (false≢true h)
 
 no-number : (d : Domain) (x : Value) → has_numbers d ≡ false → InDomain d x → number_or 0 (Some x) ≡ 0
 no-number (Numbers ns) x h among = absurd (false≢true (sym h))
@@ -287,7 +287,7 @@ module _ (space : Space) (scope : List BitsOf) (one : Demand) where
   all-tried full place p lawful valid at numbers =
       let v = value-at space full lawful valid place p at in
       subst (λ o. (list_any (λ n. option_passes t.Equal o (Number n)) (listed_numbers p.domain) || (has_more p.domain && option_passes t.AtLeast o (Number 1000000))) ≡ true) (sym v.1.0)
-      (tried p.domain v.0 numbers v.1.1)
+      (number-is-tried p.domain v.0 numbers v.1.1)
 
   with-more : (more : Bool) (a h u : Bool) → more ≡ true → (a || (more && h)) ≡ true → ((a && u) || (h && u)) ≡ u
   with-more more true true true e k = refl

@@ -1,11 +1,8 @@
 //! Where a demand on widths is broken, as a condition: a case for each number of the parameters that
 //! the widths depend on.
 
-ghost use Rattle.std.specs.Prelude.{◌≡◌, true, ◌≤◌, ◌<◌, ◌+◌, ◌++◌, ◌∷◌, [], ◌||◌, ◌&&◌, IfOk, OnOk, length};
-ghost use Rattle.udb_base.specs.declared.spaces.Space.{Space};
+ghost use Rattle.std.specs.Prelude.{◌≡◌, ◌≤◌, ◌+◌, true, IfOk, OnOk, length};
 ghost use Rattle.udb_base.specs.declared.conditions.Cond.TheVariants as c;
-ghost use Rattle.udb_base.specs.declared.conditions.Test.TheVariants as t;
-ghost use Rattle.udb_base.specs.declared.conditions.Value.TheVariants as given;
 ghost use Rattle.type_issues.specs.Issues.{demand_of};
 ghost use Rattle.udb_spec.specs.Lawful.{Lawful};
 ghost use Rattle.type_demands.specs.Cases.{numbers_of, has_numbers, verdict, IsParamAt, IsBreach, HoldsEither, HoldsAny, HoldsAsAny, HoldsWhereBroken, case_cond};
@@ -37,6 +34,7 @@ fn verdict(alloc: Global, asked: &Asked, tried: &Tried) -> Result<Cond, NoMemory
     Ok(Cond::Always)
 }
 
+/// Whether a condition is the one that never holds.
 pub(crate) fn is_never(cond: &Cond) -> bool
     ensures { result ≡ true → cond.now ≡ c.Never }
 {

@@ -42,7 +42,7 @@ fn names_one(alloc: Global, name: &str) -> Result<Named, NoMemory>
 }
 
 // The first names, and those of the second that aren't among them.
-fn united(alloc: Global, first: &[Name], second: &[Name]) -> Result<Many<Name>, NoMemory>
+fn union_of(alloc: Global, first: &[Name], second: &[Name]) -> Result<Many<Name>, NoMemory>
     ensures { IfOk result (λ names. names ≡ first.now
         ++ filter (λ name. not (lists.is_among same_bytes name first.now)) second.now) }
 {
@@ -61,7 +61,7 @@ pub fn named_by_both(alloc: Global, a: &Named, z: &Named) -> Result<Named, NoMem
         ≡ meant.named_by_both (named_of a.now) (named_of z.now)) }
 {
     Ok(Named {
-        params: united(alloc, a.params.as_slice(), z.params.as_slice())?,
+        params: union_of(alloc, a.params.as_slice(), z.params.as_slice())?,
         is_product: a.is_product || z.is_product,
     })
 }
@@ -72,13 +72,13 @@ fn names_some(named: &Named) -> bool
     named.params.len() > 0
 }
 
-fn multiplied(alloc: Global, a: &Named, z: &Named) -> Result<Named, NoMemory>
+fn named_by_product(alloc: Global, a: &Named, z: &Named) -> Result<Named, NoMemory>
     ensures { IfOk result (λ n. named_of n
         ≡ meant.multiplied (named_of a.now) (named_of z.now)) }
 {
     let is_product = a.is_product || z.is_product || (names_some(a) && names_some(z));
     Ok(Named {
-        params: united(alloc, a.params.as_slice(), z.params.as_slice())?,
+        params: union_of(alloc, a.params.as_slice(), z.params.as_slice())?,
         is_product,
     })
 }
@@ -202,7 +202,7 @@ pub fn named_in(
                 named_in(alloc, program, variables, a.get()),
                 named_in(alloc, program, variables, z.get()),
             )?;
-            multiplied(alloc, &a, &z)
+            named_by_product(alloc, &a, &z)
         }
         Width::Max(a, z) => {
             let (a, z) = both(

@@ -7,7 +7,7 @@ ghost use Rattle.udb_spec.specs.ProofText.{HasShortPlaces};
 ghost use Rattle.udb_refute.specs.Search.{HasShortLists, space_count};
 ghost use Rattle.idl_forms.specs.Ready.{IsLawfulProgram, AreLawfulVariables};
 ghost use Rattle.type_issues.specs.Issues.{demand_of};
-ghost use Rattle.type_demands.specs.Breaks.{HoldsWhereUnmet, IsBreaker, IsExample};
+ghost use Rattle.type_demands.specs.Breaks.{IsBreaker, IsExample};
 
 use crate::breaches::breach;
 use crate::cases::is_never;
