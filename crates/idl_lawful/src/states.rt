@@ -15,13 +15,13 @@ use udb_base::{Full, Space};
 use udb_cond::{holds, mxlen};
 
 // Whether a number has at most so many bits.
-fn has_bits(number: u64, bits: u64) -> bool
+pub(crate) fn has_bits(number: u64, bits: u64) -> bool
     ensures { result ≡ nat_lt number (2 ^ bits) }
 {
     bits >= 64 || number >> bits == 0
 }
 
-fn have_bits(numbers: &[u64], bits: u64) -> bool
+pub(crate) fn have_bits(numbers: &[u64], bits: u64) -> bool
     ensures { result ≡ list_all (is_below_power bits) numbers.now }
 {
     for number in numbers {

@@ -27,9 +27,9 @@ use std::marker::Model;
 use udb_base::{Full, Many, NoMemory, Space};
 use udb_cond::{holds, mxlen};
 
-/// How many forms may stand in one another while a body runs, called functions included. It keeps
-/// an evaluation on a stack of 8 MiB.
-const DEEPEST: u32 = 3072;
+/// How many forms may stand in one another while a body runs, called functions included; an
+/// expression counts as four. It keeps an evaluation on a stack of 8 MiB.
+const DEEPEST: u32 = 8192;
 
 /// How a body ends.
 #[derive(Clone, Copy)]
@@ -87,7 +87,8 @@ impl Evaluator {
 
     /// Runs a body, named by its place, as an operation: how it ends, with the state that it
     /// leaves. It takes memory for the values of names, and may want it; so it does where more than
-    /// 3,072 forms stand in one another.
+    /// 8,192 forms stand in one another, of which each expression counts as four. A body of 64
+    /// nested forms may call 20 functions deep of as many.
     pub fn run(
         &mut self,
         alloc: Global,

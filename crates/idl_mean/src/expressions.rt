@@ -11,7 +11,7 @@ ghost use Rattle.idl_forms.specs.Ready.{IsScene, IsSoundAt, IsPresentCsr, Keeps}
 ghost use Rattle.idl_mean.specs.Flows.{choice_reading, bit_reading};
 
 use crate::calls::{call, returned_value};
-use crate::depth::deeper;
+use crate::depth::{deeper, deeper_expression};
 use idl_forms::fields::{Addressed, csr_at, csr_of_word, field_value, new_field, soft_read};
 use idl_forms::harts::HartState;
 use idl_forms::kinds::chosen;
@@ -67,7 +67,7 @@ pub fn evaluate(
         (state_of state.old)) result (state_of state.new) }
     ensures kept { Keeps scene.now (state_of state.old) (state_of state.new) }
 {
-    let depth = deeper(depth)?;
+    let depth = deeper_expression(depth)?;
     match expr {
         Expr::Number(value) => number(*value),
         Expr::Sized {

@@ -1,3 +1,4 @@
 pub mod DeedForms
+pub mod FieldCalls
 pub mod LastOne
 pub mod MarkedFunctions

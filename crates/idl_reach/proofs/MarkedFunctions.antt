@@ -32,7 +32,7 @@ marked-filter p (f ∷ fs) = at (p f) (marked-filter p fs)
     at true e = ap (λ zs. f ∷ zs) e
     at false e = e
 
-filter-same : (p q : Function → Bool) → ((f : Function) → p f ≡ q f) → (fs : List Function) → filter p fs ≡ filter q fs
+pub filter-same : (p q : Function → Bool) → ((f : Function) → p f ≡ q f) → (fs : List Function) → filter p fs ≡ filter q fs
 filter-same p q h [] = refl
 filter-same p q h (f ∷ fs) = at (p f) (q f) (h f) (filter-same p q h fs)
   where
@@ -69,7 +69,7 @@ marked-named name functions = marked-filter (λ f. same_bytes f.name name) funct
 pub marked-by : (e : Expr) (functions : List Function) → chosen functions (map (λ f. list_any (is_call f.name) (expr_deeds e)) functions) ≡ called_by e functions
 marked-by e functions = marked-filter (λ f. list_any (is_call f.name) (expr_deeds e)) functions ∙ filter-same _ _ (λ f. sym (call-among f.name (expr_deeds e))) functions
 
-mark-drop : (ms : List Bool) (i : ℕ) → mark_at ms i ≡ mark_at (drop i ms) 0
+pub mark-drop : (ms : List Bool) (i : ℕ) → mark_at ms i ≡ mark_at (drop i ms) 0
 mark-drop [] zero = refl
 mark-drop [] (suc i) = refl
 mark-drop (m ∷ ms) zero = refl

@@ -1,5 +1,5 @@
 -- What is asked of deeds, and functions that are marked.
-use Rattle.std.specs.Prelude.{◌||◌, Bool, false, ℕ, List, [], ◌∷◌, filter, slice_get, unwrap_or, if◌then◌else◌}
+use Rattle.std.specs.Prelude.{◌||◌, ◌++◌, Bool, false, ℕ, List, [], ◌∷◌, flat_map, filter, slice_get, unwrap_or, if◌then◌else◌}
 use Rattle.std.specs.List.{list_any}
 use Rattle.udb_base.specs.declared.names.Name.{Name}
 use Rattle.udb_base.specs.Lists.{is_among}
@@ -7,8 +7,13 @@ use Rattle.udb_spec.specs.Conditions.{same_bytes}
 use Rattle.idl_tree.specs.declared.expressions.Expr.{Expr}
 use Rattle.idl_tree.specs.declared.statements.Target.{Target}
 use Rattle.idl_tree.specs.declared.statements.Target.TheVariants as t
+use Rattle.idl_tree.specs.declared.programs.Body.{Body}
 use Rattle.idl_tree.specs.declared.programs.Function.{Function}
-use Rattle.idl_spec.specs.Deeds.{Deed, calls, acts, leaves_fields, is_loud, expr_deeds, function_deeds, called_names}
+use Rattle.idl_tree.specs.declared.programs.FieldBodies.{FieldBodies}
+use Rattle.idl_tree.specs.declared.programs.CsrBody.{CsrBody}
+use Rattle.idl_tree.specs.declared.programs.Program.{Program}
+use Rattle.idl_spec.specs.Deeds.{Deed, calls, acts, leaves_fields, is_loud, expr_deeds, deeds_of, function_deeds, called_names}
+use Rattle.idl_spec.specs.Costs.{kind_bodies, reset_bodies, write_bodies, field_bodies}
 use Rattle.idl_reach.specs.declared.deeds.Asked.{Asked}
 use Rattle.idl_reach.specs.declared.deeds.Asked.TheVariants as a
 
@@ -47,6 +52,10 @@ chosen _ _ = []
 abbrev pub mark_at : List Bool → ℕ → Bool
 mark_at marks place = unwrap_or (slice_get marks place) false
 
+-- the name of a function whose mark is true
+abbrev pub name_if : Bool → Function → List Name
+name_if mark f = if mark then f.name ∷ [] else []
+
 -- the functions of a name
 abbrev pub named : Name → List Function → List Function
 named name functions = filter (λ f. is_among same_bytes f.name (name ∷ [])) functions
@@ -54,3 +63,23 @@ named name functions = filter (λ f. is_among same_bytes f.name (name ∷ [])) f
 -- the functions that an expression calls
 abbrev pub called_by : Expr → List Function → List Function
 called_by e functions = filter (λ f. is_among same_bytes f.name (called_names (expr_deeds e))) functions
+
+-- ---- bodies of fields
+
+-- whether a body calls the function of a name
+abbrev pub body_calls : Name → Body → Bool
+body_calls name body = list_any (is_call name) (deeds_of body.statements)
+
+-- the bodies of a field
+abbrev pub bodies_of : FieldBodies → List Body
+bodies_of f = kind_bodies f.kind ++ (reset_bodies f.reset ++ write_bodies f.write)
+
+-- whether a body of a field calls the function of a name
+abbrev pub fields_call : Name → List CsrBody → Bool
+fields_call name csrs = list_any (body_calls name) (flat_map (λ one. flat_map bodies_of one.fields) csrs)
+
+-- the functions that bodies of fields call
+abbrev pub called_by_fields : Program → List Function
+called_by_fields program =
+    filter (λ f. is_among same_bytes f.name (flat_map (λ body. called_names (deeds_of body.statements)) (field_bodies program)))
+    program.functions

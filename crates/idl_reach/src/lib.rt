@@ -4,8 +4,10 @@
 
 mod deeds;
 mod endings;
+mod fields;
 mod reaching;
 
 pub use deeds::stays_in_fields;
 pub use endings::ends_in_return;
+pub use fields::reached_by_fields;
 pub use reaching::{call_stays_in_fields, is_quiet};

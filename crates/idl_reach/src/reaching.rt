@@ -16,7 +16,8 @@ fn function_does(asked: Asked, f: &Function) -> bool
     any_in_statements(asked, f.body.statements.as_slice())
 }
 
-fn is_marked(marks: &[bool], place: usize) -> bool
+/// The mark of a place; past the end there is none.
+pub(crate) fn is_marked(marks: &[bool], place: usize) -> bool
     ensures { result ≡ mark_at marks.now place }
 {
     match marks.get(place) {
@@ -90,8 +91,8 @@ fn mark_called(
     Ok(more)
 }
 
-// Marks all that are reached from those that are marked.
-fn mark_reached(
+/// Marks all that are reached from those that are marked.
+pub(crate) fn mark_reached(
     alloc: Global,
     functions: &[Function],
     marks: Many<bool>,

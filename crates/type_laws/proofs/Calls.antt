@@ -34,7 +34,7 @@ use Rattle.type_laws.proofs.Sound.{Stands, Sound, names_in, checks_in, clean_par
 use Rattle.type_laws.proofs.Equalities.{by_kind}
 use Rattle.type_laws.proofs.Lists.{map_seconds, map_kinds, HasKinds, AreSound, are_sound}
 
-enum_is : (k l : EnumKind) → same_enum k l ≡ true → k ≡ l
+pub enum_is : (k l : EnumKind) → same_enum k l ≡ true → k ≡ l
 enum_is PrivilegeMode PrivilegeMode h = refl
 enum_is ExceptionCode ExceptionCode h = refl
 enum_is CsrFieldType CsrFieldType h = refl
@@ -78,7 +78,7 @@ module _ (e : Setting) (mode : Mode) (round : Round) where
     pub suit : arguments_suit function.arguments kinds ≡ true
     pub allowed : (if is_in_field mode then reaches_fields_alone (view_in e mode round []) name else true) ≡ true
 
-  abbrev issues_of : Name → List (Option Kind) → Option Function → List Issue
+  abbrev pub issues_of : Name → List (Option Kind) → Option Function → List Issue
   issues_of name kinds o = elim o [
     | None ↦ unknown_name name ∷ []
     | Some f ↦ (if is_some (function_named round.before name) then [] else later_function name ∷ [])

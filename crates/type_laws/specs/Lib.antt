@@ -1,8 +1,10 @@
 pub mod Kinds
 pub mod Literals
+pub mod Given
 pub mod LiteralLaws
 pub mod Worlds
 pub mod Callees
+pub mod Software
 pub mod Soundness
-pub mod Strict
+pub mod Fitting
 pub mod Laws

@@ -1,0 +1,4 @@
+pub mod Bodies
+pub mod Capped
+pub mod Prices
+pub mod Turns
