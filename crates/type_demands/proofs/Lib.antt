@@ -1,0 +1,5 @@
+pub mod NamedLaws
+pub mod ReadLaws
+pub mod CaseLaws
+pub mod PresenceLaws
+pub mod BreachLaws
