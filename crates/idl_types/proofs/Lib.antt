@@ -1,0 +1,9 @@
+pub mod BreakLaws
+pub mod FaultLaws
+pub mod FitLaws
+pub mod ListLaws
+pub mod OrderLaws
+pub mod PassLaws
+pub mod ProgramLaws
+pub mod TellLaws
+pub mod TypedLaws

@@ -1,0 +1,31 @@
+use Rattle.std.proofs.Common.{◌≡◌, ◌∙◌, Some, None, option_map, sym, ap}
+use Rattle.idl_spec.specs.Faults.{first_later, node_number}
+use Rattle.type_issues.specs.Issues.{issues_of, check_of, checks_of}
+use Rattle.idl_types.specs.Passes.{IsLate, IsFirstOf}
+use Rattle.idl_types.proofs.PassLaws.{first-here, one-more, none-left}
+use Rattle.idl_types.proofs.TellLaws.{told-so, check-at, all-checks, late-shown, not-late, nothing-in}
+use Rattle.idl_types.proofs.names.check_order.Goals as goal
+
+pub returns-in-Some-clause-first : goal.returns-in-Some-clause-first
+returns-in-Some-clause-first c =
+    let checks = checks_of c.args.checks.now in
+    let node = c.loop-node.node in
+    let one = c.index-checks-node.result in
+    let at = check-at c.args.checks.now node one c.loop-node-test.true c.index-checks-node.is in
+    let named : first_later (issues_of one.issues) ≡ Some c.in-Some.name.now =
+    ap (λ is. first_later (issues_of is)) (sym c.as_slice.ensures) ∙ (sym c.first_later.ensures ∙ ap (option_map (λ n. n.now)) c.in-Some.is) in
+    told-so _ (IsFirstOf IsLate checks)
+    (λ f is. first-here IsLate checks node (check_of one) f (ap node_number is) at (late-shown node c.in-Some.name.now (check_of one) f named is) c.loop-node.invariant)
+    c.order.result c.order.ensures
+
+pub loop-node-preserved : goal.loop-node-preserved
+loop-node-preserved c =
+    let one = c.index-checks-node.result in
+    let at = check-at c.args.checks.now c.loop-node.node one c.loop-node-test.true c.index-checks-node.is in
+    let none : first_later (issues_of one.issues) ≡ None =
+    ap (λ is. first_later (issues_of is)) (sym c.as_slice.ensures) ∙ (sym c.first_later.ensures ∙ nothing-in (λ n. n.now) c.first_later.result c.in_default.not-Some) in
+    one-more IsLate (checks_of c.args.checks.now) c.loop-node.node (check_of one) at (not-late (check_of one) none) c.loop-node.invariant
+
+pub returns-clause-none : goal.returns-clause-none
+returns-clause-none c =
+    none-left IsLate (checks_of c.args.checks.now) c.loop-node.node (all-checks c.args.checks.now c.loop-node.node c.loop-node-test.false) c.loop-node.invariant

@@ -1,0 +1,6 @@
+use Rattle.type_issues.specs.Issues.{checks_of}
+use Rattle.idl_types.specs.Passes.{IsLate, NoneBefore}
+use Rattle.idl_types.proofs.names.check_order.Given as goal
+
+abbrev pub invariant-loop-node : goal.invariant-loop-node
+invariant-loop-node l = NoneBefore IsLate (checks_of l.checks) l.node

@@ -1,0 +1,4 @@
+pub mod Assembled
+pub mod Passes
+pub mod Refusals
+pub mod Typing
