@@ -6,7 +6,9 @@ use Rattle.udb_spec.specs.Spaces.{Valid}
 use Rattle.idl_tree.specs.declared.programs.Program.{Program}
 use Rattle.idl_spec.specs.declared.scopes.BodyScope.TheVariants as scope
 use Rattle.type_laws.specs.Fitting.{IsFitting, FittingBodiesAreNeverStuck}
-use Rattle.idl_types.specs.Typing.{IsReady, TypedBodiesAreNeverStuck}
+use Rattle.idl_types.specs.Typing.{IsReady, TypedBodiesAreNeverStuck, FormulasAreTrue}
+use Rattle.type_laws.proofs.TestForms.{tells}
+use Rattle.type_laws.proofs.GivenWorlds.{tested}
 use Rattle.idl_types.proofs.FitLaws.{fits-all}
 use Rattle.idl_types.proofs.ProgramLaws.{typed-fits}
 
@@ -20,7 +22,6 @@ fitting space program r full valid = record {
   fit = typed-fits space full valid program r.typed;
 }
 
-
 pub typed-never-stuck : FittingBodiesAreNeverStuck → TypedBodiesAreNeverStuck
 typed-never-stuck law = record {
   operations = λ space program r presence body o full valid here s state.
@@ -31,3 +32,7 @@ typed-never-stuck law = record {
   resets = λ space program r full valid csr h p k. law.resets space full program (fitting space program r full valid) csr h p k;
   writes = λ space program r full valid csr h p k body is n s state. law.writes space full program (fitting space program r full valid) csr h p k body is n s state;
 }
+
+pub formulas-true : FormulasAreTrue
+formulas-true e valid read apart names scope m x small s t v is =
+    (tells e (tested e valid read apart) x names scope s t v m small is).formula

@@ -1,6 +1,6 @@
-//! The law of typing, for programs all of whose bodies are typed.
+//! The laws of typing: of programs all of whose bodies are typed, and of formulas.
 
-ghost use Rattle.idl_types.specs.Typing.{TypedBodiesAreNeverStuck};
+ghost use Rattle.idl_types.specs.Typing.{FormulasAreTrue, TypedBodiesAreNeverStuck};
 
 use type_laws::fitting_bodies_are_never_stuck;
 
@@ -13,3 +13,10 @@ pub fn typed_bodies_are_never_stuck()
 {
     fitting_bodies_are_never_stuck();
 }
+
+/// The law of formulas: the condition that `as_formula` gives of an expression holds in a valid full
+/// configuration exactly where the expression is true in it, whenever it has a truth value, in a
+/// scope whose names are no parameters.
+pub fn formulas_are_true()
+    ensures { FormulasAreTrue }
+{}

@@ -11,6 +11,6 @@ mod programs;
 
 pub use bodies::{Typed, TypedBodies, check_body};
 pub use faults::TypeFault;
-pub use laws::typed_bodies_are_never_stuck;
+pub use laws::{formulas_are_true, typed_bodies_are_never_stuck};
 pub use programs::{TypedProgram, assemble};
 pub use type_kinds::as_formula;
